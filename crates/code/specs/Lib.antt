@@ -1,0 +1,5 @@
+pub mod Judge
+pub mod Rule
+pub mod Wanted
+pub mod Balance
+pub mod Opened

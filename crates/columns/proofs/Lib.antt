@@ -1,0 +1,5 @@
+pub mod Linear
+pub mod Places
+pub mod Errors
+pub mod Words
+pub mod Rows
