@@ -1,0 +1,4 @@
+pub mod Table
+pub mod Rule
+pub mod Steps
+pub mod Laying
