@@ -1,4 +1,7 @@
-pub mod Table
 pub mod Rule
+pub mod Table
 pub mod Steps
 pub mod Laying
+pub mod Bands
+pub mod Balancing
+pub mod Sum
