@@ -8,13 +8,19 @@ use native.Mathlib.Nat.{mul-le-mul, add-zero, zero-add}
 use native.Mathlib.Numerals.{add-one}
 use lib.Dec.{ltb}
 use lib.IntN.{ℤ, pos, negsuc, _-ℤ_}
-use lib.ListN.{length, take, drop, getD, set, drop-of-length-le}
+use lib.ListN.{length, take, drop, getD, set, replicate, drop-of-length-le}
 use lib.Seq.{drop-cons, take-suc-set}
 use lib.Signed.{mag}
 use mir.Syntax.{w32}
 use mir.Val.{SFits, toZ, ofZ}
 use mir.Facts.{toZ-pos, toZ-ofZ}
-use Rattle.code.specs.Balance.{sumOf, balanceAt, balancesFrom}
+use Rattle.code.specs.declared.Code.{Code}
+use Rattle.code.specs.declared.Balances.{Balances}
+use Rattle.code.specs.declared.Judged.{Judged}
+use Rattle.code.specs.declared.Judged.the-variants.{Accepted}
+use Rattle.code.specs.Judge.{judgeOf, numberOf, toldOf, accepted}
+use Rattle.code.specs.Rule.{matrixOf}
+use Rattle.code.specs.Balance.{sumOf, balanceAt, balancesFrom, balancesOf}
 
 -- ---- a sum over what is left from place i on
 
@@ -58,3 +64,20 @@ rows-snoc cs r (suc n) j = ap (λ (l : List ℤ). balanceAt cs r j ∷ l) (rows-
 pub rows-stored : (cs : List ℕ) (r j : ℕ) (rows : List ℤ) (v : ℤ) → j < length rows → take j rows ≡ balancesFrom cs r j 0 → v ≡ balanceAt cs r j
     → take (j + 1) (set rows j v) ≡ balancesFrom cs r (j + 1) 0
 rows-stored cs r j rows v h e s = rw (add-one, take-suc-set rows j v h, rows-snoc cs r j 0, zero-add, e, s)
+
+-- ---- the two cases of the answer
+
+module _ (code : Code) where
+  pub balances-refused : (v : Judged) → v ≡ judgeOf code → accepted v ≡ false → (number told : ℕ) → number ≡ numberOf v → told ≡ toldOf v
+      → _≡_ {A = Balances} (record { number = number; told = told; rows = replicate 16 (pos 0) }) (balancesOf code)
+  balances-refused v e h number told n t =
+      let z : replicate 16 (pos 0) ≡ cond (accepted (judgeOf code)) (balancesFrom (matrixOf code) (code .r) 16 0) (replicate 16 (pos 0)) =
+      sym (ap (λ b. cond b (balancesFrom (matrixOf code) (code .r) 16 0) (replicate 16 (pos 0))) (ap accepted (sym e) ∙ h)) in
+      λ i. record { number = (n ∙ ap numberOf e) i; told = (t ∙ ap toldOf e) i; rows = z i }
+
+  pub balances-accepted : judgeOf code ≡ Accepted → (rows : List ℤ) → rows ≡ balancesFrom (matrixOf code) (code .r) 16 0
+      → _≡_ {A = Balances} (record { number = 0; told = 0; rows = rows }) (balancesOf code)
+  balances-accepted e rows b =
+      let z : rows ≡ cond (accepted (judgeOf code)) (balancesFrom (matrixOf code) (code .r) 16 0) (replicate 16 (pos 0)) =
+      b ∙ sym (ap (λ t. cond t (balancesFrom (matrixOf code) (code .r) 16 0) (replicate 16 (pos 0))) (ap accepted e)) in
+      λ i. record { number = sym (ap numberOf e) i; told = sym (ap toldOf e) i; rows = z i }

@@ -100,8 +100,12 @@ module _ (columns : List ℕ) (r i : ℕ) where
   pub row-column : i < length columns → (v : Judged) → Row v → judgeColumn columns r i ≡ v
   unfolding judgeColumn
   row-column l Accepted f =
-      simp (wide-test (f .narrow), ne-eqb (oddOnes (column columns i)) 0 (f .odd), ne-eqb (ones (column columns i)) 1 (f .many),
-      le-ltb (placeIn columns (column columns i)) i (⊎-elim (λ x. absurd (f .new (again l x))) (λ y. y) (below-or-not (placeIn columns (column columns i)) i)))
+      simp (
+        wide-test (f .narrow),
+        ne-eqb (oddOnes (column columns i)) 0 (f .odd),
+        ne-eqb (ones (column columns i)) 1 (f .many),
+        le-ltb (placeIn columns (column columns i)) i (⊎-elim (λ x. absurd (f .new (again l x))) (λ y. y) (below-or-not (placeIn columns (column columns i)) i)),
+      )
   row-column l NoData x = absurd x
   row-column l NoChecks x = absurd x
   row-column l (TooWide j) x = simp (le-leb (2 ^ r) (column columns i) (x .1)) (ap TooWide (x .0))
@@ -109,8 +113,12 @@ module _ (columns : List ℕ) (r i : ℕ) where
   row-column l (SingleOne j) x =
       simp (wide-test (x .1), ne-eqb (oddOnes (column columns i)) 0 (x .2), eq-eqb (ones (column columns i)) 1 (x .3)) (ap SingleOne (x .0))
   row-column l (Repeated j) x =
-      simp (wide-test (x .1), ne-eqb (oddOnes (column columns i)) 0 (x .2), ne-eqb (ones (column columns i)) 1 (x .3),
-      lt-ltb (placeIn columns (column columns i)) i (first l (x .4))) (ap Repeated (x .0))
+      simp (
+        wide-test (x .1),
+        ne-eqb (oddOnes (column columns i)) 0 (x .2),
+        ne-eqb (ones (column columns i)) 1 (x .3),
+        lt-ltb (placeIn columns (column columns i)) i (first l (x .4)),
+      ) (ap Repeated (x .0))
 
 -- ---- all columns
 

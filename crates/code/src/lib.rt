@@ -160,7 +160,7 @@ pub struct Opened {
     pub columns: [u16; 80],
 }
 
-pub fn open(code: Code) -> Opened
+pub fn open_code(code: Code) -> Opened
     ensures { λ o. ⌜ o ≡ openedOf code ⌝ }
 {
     let verdict = judge(code);
@@ -289,7 +289,7 @@ pub struct Balances {
 pub fn row_balance(code: Code) -> Balances
     ensures { λ b. ⌜ b ≡ balancesOf code ⌝ }
 {
-    let opened = open(code);
+    let opened = open_code(code);
     let verdict = opened.verdict;
     let Judged::Accepted = verdict else {
         let none = [0i32; 16];

@@ -1,4 +1,4 @@
--- `code::open` meets its contract: a refused code gives zeros, an accepted one its columns, whose limits the rule gives. Assumes nothing.
+-- `code::open_code` meets its contract: a refused code gives zeros, an accepted one its columns, whose limits the rule gives. Assumes nothing.
 use mathlib.Core.Path.{_≡_, sym, _∙_}
 use native.Mathlib.Omega.{arith}
 use borrow.Author.Needs.{needs}
@@ -10,8 +10,8 @@ use Rattle.code.specs.Rule.{Limits}
 use Rattle.code.proofs.Table.{judge-rule}
 use Rattle.code.proofs.Steps.{refused}
 use Rattle.code.proofs.Laying.{opened-refused, opened-accepted}
-use Rattle.code.proofs.open.Statement.{statement}
-use Rattle.code.proofs.open.Tie as tie
+use Rattle.code.proofs.open_code.Statement.{statement}
+use Rattle.code.proofs.open_code.Tie as tie
 
 -- past the `let .. else`: the limits hold, and the array has its 64 places
 limits : (c : tie.After-enum-told) → let a = c .before .before .before .args .code in Limits 64 (a .k) (a .r)
@@ -58,8 +58,8 @@ returns-2 c =
     let j = t .before .before in
     opened-accepted (j .before .args .code) (j .judge .result) (j .judge .ensures) (t .enum-told .given .1) _ (c .before .lay-out .ensures)
 
-pub open-spec : {M : Type 1} → statement M
-open-spec =
+pub open-code-spec : {M : Type 1} → statement M
+open-code-spec =
     tie.close
     (tie.spec
     judge-requires

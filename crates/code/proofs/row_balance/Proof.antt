@@ -1,0 +1,84 @@
+-- `code::row_balance` meets its contract: a refused code gives zeros, an accepted one its 16 balances. Assumes nothing.
+use mathlib.Core.Path.{_≡_, sym, _∙_, ap}
+use native.Mathlib.Omega.{arith}
+use borrow.Author.Needs.{needs}
+use lib.ListN.{length}
+use lib.Seq.{length-take-le}
+use Rattle.code.proofs.Steps.{refused}
+use Rattle.code.proofs.Ready.{Ready, ready}
+use Rattle.code.proofs.Balancing.{balances-refused, balances-accepted}
+use Rattle.code.proofs.row_balance.Statement.{statement}
+use Rattle.code.proofs.row_balance.Tie as tie
+
+-- past the `let .. else`
+is-ready : (c : tie.After-enum-told) → Ready (c .before .before .before .args .code) (c .before .before .open-code .result .columns)
+is-ready c =
+    let o = c .before .before in
+    let places : length (o .before .args .code .columns) ≡ 64 = search needs in
+    ready (o .before .args .code) places (o .open-code .result) (o .open-code .ensures) (c .enum-told .given .1)
+
+all-places : (c : tie.After-enum-told) → length (c .before .before .open-code .result .columns) ≡ 80
+all-places c = search needs
+
+open-code-requires : tie.Need-open-code-requires
+open-code-requires c κs = search needs
+
+enum-told : tie.Need-enum-told
+enum-told c = search needs
+
+number-of-requires : tie.Need-number-of-requires
+number-of-requires c κs = search needs
+
+told-of-requires : tie.Need-told-of-requires
+told-of-requires c κs = search needs
+
+returns : tie.Need-returns
+returns c =
+    let o = c .before .before .before in
+    balances-refused (o .before .args .code) (o .open-code .result .verdict) (ap (λ x. x .verdict) (o .open-code .ensures))
+    (refused (o .open-code .result .verdict) (c .before .before .match .keys2)) _ _ (c .before .number-of .ensures) (c .told-of .ensures)
+
+add-n : tie.Need-add-n
+add-n c =
+    let l = is-ready (c .before) .limits in
+    omega (arith, l .sized .few)
+
+array-share-prefix-columns : tie.Need-array-share-prefix-columns
+array-share-prefix-columns c =
+    let l = is-ready (c .before .before) .limits in
+    let n = all-places (c .before .before) in
+    omega (arith, l .sized .few)
+
+slice-aggregate-balance-rows : tie.Need-slice-aggregate-balance-rows
+slice-aggregate-balance-rows c =
+    let l = is-ready (c .before .before .before) .limits in
+    let n = all-places (c .before .before .before) in
+    sym (length-take-le _ _ (omega (arith, l .sized .few)))
+
+balance-rows-requires : tie.Need-balance-rows-requires
+balance-rows-requires c κs =
+    let t = is-ready (c .before .before .before) in
+    let l = t .limits in
+    (l .top, omega (arith, l .sized .few, ap length (t .laid), t .size))
+
+returns-2 : tie.Need-returns-2
+returns-2 c =
+    let e = c .before .before .before .before .before in
+    let o = e .before .before in
+    let t = is-ready e in
+    balances-accepted (o .before .args .code) (t .verdict) _ (rw (t .laid) at (c .before .balance-rows .ensures))
+
+pub row-balance-spec : {M : Type 1} → statement M
+row-balance-spec =
+    tie.close
+    (tie.spec
+    open-code-requires
+    enum-told
+    number-of-requires
+    told-of-requires
+    returns
+    add-n
+    array-share-prefix-columns
+    slice-aggregate-balance-rows
+    balance-rows-requires
+    returns-2)
