@@ -1,15 +1,10 @@
 -- The turns of the judge's loops, and what its `let .. else` knows. Assumes nothing.
-use mathlib.Core.Path.{_≡_, refl, _∙_}
-use mathlib.Core.Bool.{true, false}
+use mathlib.Core.Path.{_≡_, refl}
+use mathlib.Core.Bool.{false}
 use mathlib.Core.List.{List, [], _∷_}
-use Prim.Native.Nat.{ℕ, zero, suc, _+_, _-_, _*_, _%_, _^_, _≤_, _<_}
-use native.Mathlib.Nat.{one-mul}
+use Prim.Native.Nat.{ℕ, zero, suc, _+_, _-_, _≤_, _<_}
 use native.Mathlib.Numerals.{add-one}
 use native.Mathlib.Omega.{arith}
-use borrow.Author.Tests.{eqb-true, eqb-false, eq-eqb, ne-eqb}
-use lib.Dec.{eqb}
-use Rattle.parity.specs.Odd.{oddOnes, isOdd}
-use lib.Pow.{shl-exact}
 use types.Run.{OneOf, miss}
 use denote.Enum.Declared.{tagOf}
 use Rattle.code.proofs.Judged.{the-type}
@@ -44,17 +39,6 @@ refused (TooWide i) h = refl
 refused (EvenColumn i) h = refl
 refused (SingleOne i) h = refl
 refused (Repeated i) h = refl
-
--- a one moved up by j places, in any width above j
-pub shl-one : (w j : ℕ) → j < w → (1 * 2 ^ j) % 2 ^ w ≡ 2 ^ j
-shl-one w j h = shl-exact {a = 1} 1 j w (omega arith) (omega arith) ∙ one-mul (2 ^ j)
-
--- the test of an odd count, and the judge's of an even one
-pub even-test : (x : ℕ) → isOdd x ≡ false → eqb (oddOnes x) 0 ≡ true
-even-test x h = let n = eqb-false (oddOnes x) 1 h in eq-eqb (oddOnes x) 0 (omega arith)
-
-pub odd-test : (x : ℕ) → isOdd x ≡ true → eqb (oddOnes x) 0 ≡ false
-odd-test x h = let e = eqb-true (oddOnes x) 1 h in ne-eqb (oddOnes x) 0 (λ z. omega (arith, z))
 
 pub decides : (v b : Judged) → OneOf refusals (tagOf the-type v) → orElse v b ≡ v
 decides v b h = refuses v b (refused v h)

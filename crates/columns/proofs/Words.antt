@@ -3,10 +3,10 @@ use mathlib.Core.Path.{_≡_, refl, sym, ap, ap₂, _∙_}
 use mathlib.Core.List.{List, [], _∷_, _++_}
 use Prim.Native.Nat.{ℕ, zero, suc, _+_, _*_, _/_, _%_, _^_, _<_}
 use native.Mathlib.Omega.{arith}
-use native.Mathlib.Nat.{le-of-suc-le-suc, not-suc-le-zero}
+use native.Mathlib.Nat.{one-mul}
 use lib.Bits.{bitXor, xor-self, xor-lt, xor-block, xor-zero-r}
 use lib.ListN.{length, getD}
-use lib.Pow.{pow-pos, pow-lt, pow-add}
+use lib.Pow.{pow-pos, pow-lt, pow-add, shl-exact}
 use Rattle.columns.specs.Mix.{mix, taken, flip, units}
 use Rattle.parity.proofs.Xor.{xor-undo-r}
 use Rattle.columns.proofs.Linear.{mix-append, mix-identity}
@@ -44,3 +44,7 @@ flip-high k d c p h =
     ∙ xor-block k c (2 ^ p) d 0 h (pow-pos k)
     ∙ ap (λ (x : ℕ). flip c p * 2 ^ k + x) (xor-zero-r d)
     ∙ sym (two-parts k d (flip c p))
+
+-- a one moved up by j places, in any width above j
+pub shl-one : (w j : ℕ) → j < w → (1 * 2 ^ j) % 2 ^ w ≡ 2 ^ j
+shl-one w j h = shl-exact {a = 1} 1 j w (omega arith) (omega arith) ∙ one-mul (2 ^ j)

@@ -3,7 +3,7 @@ use mathlib.Core.Path.{_≡_, sym, _∙_}
 use native.Mathlib.Omega.{arith}
 use borrow.Author.Needs.{needs}
 use Rattle.columns.proofs.Units.{data-at, check-past}
-use Rattle.code.proofs.Steps.{shl-one}
+use Rattle.columns.proofs.Words.{shl-one}
 use Rattle.code.proofs.column_at.Statement.{statement}
 use Rattle.code.proofs.column_at.Tie as tie
 

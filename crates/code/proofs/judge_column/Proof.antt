@@ -6,7 +6,8 @@ use native.Mathlib.Omega.{arith}
 use borrow.Author.Tests.{le-leb, lt-leb, lt-ltb, le-ltb, eq-eqb, ne-eqb, not-true, not-false}
 use borrow.Author.Needs.{needs}
 use Rattle.code.specs.Judge.{judgeColumn}
-use Rattle.code.proofs.Steps.{shl-one, even-test, odd-test}
+use Rattle.parity.proofs.Ones.{even-test, odd-test}
+use Rattle.columns.proofs.Words.{shl-one}
 use Rattle.code.proofs.judge_column.Statement.{statement}
 use Rattle.code.proofs.judge_column.Tie as tie
 
