@@ -6,3 +6,5 @@ pub mod Ready
 pub mod Bands
 pub mod Balancing
 pub mod Sum
+pub mod Counting
+pub mod Room
