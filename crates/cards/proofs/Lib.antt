@@ -1,0 +1,4 @@
+pub mod Search
+pub mod Masks
+pub mod Parts
+pub mod Flips
