@@ -71,13 +71,9 @@ module _ (code : Code) where
   pub balances-refused : (v : Judged) → v ≡ judgeOf code → accepted v ≡ false → (number told : ℕ) → number ≡ numberOf v → told ≡ toldOf v
       → _≡_ {A = Balances} (record { number = number; told = told; rows = replicate 16 (pos 0) }) (balancesOf code)
   balances-refused v e h number told n t =
-      let z : replicate 16 (pos 0) ≡ cond (accepted (judgeOf code)) (balancesFrom (matrixOf code) (code .r) 16 0) (replicate 16 (pos 0)) =
-      sym (ap (λ b. cond b (balancesFrom (matrixOf code) (code .r) 16 0) (replicate 16 (pos 0))) (ap accepted (sym e) ∙ h)) in
-      λ i. record { number = (n ∙ ap numberOf e) i; told = (t ∙ ap toldOf e) i; rows = z i }
+      let no : accepted (judgeOf code) ≡ false = ap accepted (sym e) ∙ h in
+      rw (n, t, e, no)
 
   pub balances-accepted : judgeOf code ≡ Accepted → (rows : List ℤ) → rows ≡ balancesFrom (matrixOf code) (code .r) 16 0
       → _≡_ {A = Balances} (record { number = 0; told = 0; rows = rows }) (balancesOf code)
-  balances-accepted e rows b =
-      let z : rows ≡ cond (accepted (judgeOf code)) (balancesFrom (matrixOf code) (code .r) 16 0) (replicate 16 (pos 0)) =
-      b ∙ sym (ap (λ t. cond t (balancesFrom (matrixOf code) (code .r) 16 0) (replicate 16 (pos 0))) (ap accepted e)) in
-      λ i. record { number = sym (ap numberOf e) i; told = sym (ap toldOf e) i; rows = z i }
+  balances-accepted e rows b = rw (e, b)

@@ -73,3 +73,12 @@ module _ (columns : List ℕ) (r : ℕ) where
             (data-at columns r (a .0) (omega (arith, a .1)) ∙ a .2 ∙ sym (data-at columns r i h)) in
             omega (arith, a .1);
       }
+
+  -- the columns of the whole matrix are below 2 ^ r
+  pub matrix-below : Hsiao columns r → (p : ℕ) → p < length (matrix columns r) → column (matrix columns r) p < 2 ^ r
+  matrix-below s p h =
+      let n = length-joined columns r in
+      ⊎-elim
+      (λ (l : p < length columns). omega (arith, data-at columns r p l, s .below p l))
+      (λ (l : length columns ≤ p). omega (arith, check-past columns r p l (omega arith), pow-lt {i = p - length columns} {j = r} (omega arith)))
+      (below-or-not p (length columns))

@@ -1,5 +1,7 @@
--- The balances of a code add up to 0: for any columns below 2 ^ r, and any r up to 16. Assumes nothing.
+-- The balances of any code add up to 0; and so do those of any columns below 2 ^ r, for any r up to 16. Assumes nothing.
 use mathlib.Core.Path.{_≡_, refl, sym, _∙_, ap, ap₂}
+use mathlib.Core.Bool.{false}
+use mathlib.Core.Logic.{⊎-elim}
 use mathlib.Core.List.{List, [], _∷_}
 use Prim.Native.Nat.{ℕ, zero, suc, _+_, _-_, _*_, _/_, _^_, _≤_, _<_, zero-le, suc-le-suc}
 use native.Mathlib.Omega.{arith}
@@ -9,11 +11,17 @@ use borrow.Author.Tests.{lt-ltb, le-ltb}
 use lib.Pow.{shr-shr}
 use lib.Count.{ones, onesIn}
 use lib.IntN.{ℤ, pos, negℤ, _+ℤ_, _-ℤ_, +ℤ-assoc, +ℤ-comm, +ℤ-invr, negℤ-+ℤ}
-use lib.ListN.{length}
+use lib.ListN.{length, take}
 use Rattle.parity.proofs.Ones.{ones-in}
 use Rattle.columns.specs.Bits.{bitAt}
 use Rattle.columns.specs.Mix.{column}
-use Rattle.code.specs.Balance.{sumOf, rowOnes, allOnes, balanceAt, balancesFrom, sumℤ}
+use Rattle.code.specs.declared.Code.{Code}
+use Rattle.code.specs.declared.Judged.the-variants.{Accepted}
+use Rattle.code.specs.Judge.{judgeOf, accepted}
+use Rattle.code.specs.Rule.{matrixOf}
+use Rattle.code.specs.Balance.{sumOf, rowOnes, allOnes, balanceAt, balancesFrom, balancesOf, sumℤ}
+use Rattle.code.proofs.Rule.{matrix-below}
+use Rattle.code.proofs.Table.{passes, judge-rule}
 
 -- ---- sums over n numbers from j on
 
@@ -77,7 +85,6 @@ module _ (cs : List ℕ) (r : ℕ) where
       (diff-add (r * rowOnes cs j) (allOnes cs) (r * sumFrom (λ i. rowOnes cs i) n (suc j)) (n * allOnes cs)
       ∙ ap₂ (λ (a b : ℕ). pos a -ℤ pos b) (sym (mul-add r (rowOnes cs j) (sumFrom (λ i. rowOnes cs i) n (suc j)))) all)
 
-  -- THE CLAIM
   pub balances-zero : r ≤ 16 → ((p : ℕ) → p < length cs → column cs p < 2 ^ r) → sumℤ (balancesFrom cs r 16 0) ≡ pos 0
   balances-zero h below =
       let e : 16 ≡ r + (16 - r) = omega arith in
@@ -85,3 +92,16 @@ module _ (cs : List ℕ) (r : ℕ) where
       ∙ low r (16 - r) 0 (omega arith)
       ∙ ap (λ (n : ℕ). pos (r * n) -ℤ pos (r * allOnes cs)) (swap cs r 0 ∙ columns-bits cs r below)
       ∙ +ℤ-invr (pos (r * allOnes cs))
+
+-- ---- a whole code
+
+-- THE CLAIM: accepted or refused
+pub code-balances-zero : (code : Code) → sumℤ (balancesOf code .rows) ≡ pos 0
+unfolding sumℤ
+code-balances-zero code =
+    ⊎-elim
+    (λ (e : judgeOf code ≡ Accepted).
+    let s = judge-rule 64 (code .columns) (code .k) (code .r) .0 e in
+    rw e (balances-zero (matrixOf code) (code .r) (s .limits .top) (matrix-below (take (code .k) (code .columns)) (code .r) (s .rule))))
+    (λ (e : accepted (judgeOf code) ≡ false). rw e)
+    (passes (judgeOf code))
