@@ -9,7 +9,7 @@ use native.Mathlib.Nat.{suc-add, suc-mul, mul-add, mul-zero, zero-mul}
 use native.Mathlib.Numerals.{add-one}
 use borrow.Author.Tests.{lt-ltb, le-ltb}
 use lib.Pow.{shr-shr}
-use lib.Count.{ones, onesIn}
+use lib.Count.{onesIn}
 use lib.IntN.{ℤ, pos, negℤ, _+ℤ_, _-ℤ_, +ℤ-assoc, +ℤ-comm, +ℤ-invr, negℤ-+ℤ}
 use lib.ListN.{length, take}
 use Rattle.parity.proofs.Ones.{ones-in}

@@ -4,7 +4,7 @@ use Prim.Native.Nat.{ℕ, _*_, _^_, _<_}
 use native.Mathlib.Omega.{arith}
 use borrow.Author.Needs.{needs}
 use borrow.Author.Tests.{lt-ltb, le-ltb}
-use lib.IntN.{ℤ, pos, _-ℤ_}
+use lib.IntN.{pos, _-ℤ_}
 use Rattle.code.specs.Balance.{balanceAt}
 use Rattle.code.proofs.Balancing.{times-most, diff-fits, diff-is}
 use Rattle.code.proofs.balance.Statement.{statement}

@@ -4,6 +4,7 @@ use native.Mathlib.Omega.{arith}
 use borrow.Author.Needs.{needs}
 use lib.ListN.{length}
 use lib.Seq.{length-take-le}
+use Rattle.code.specs.Balance.{balancesFrom}
 use Rattle.code.proofs.Steps.{refused}
 use Rattle.code.proofs.Ready.{Ready, ready}
 use Rattle.code.proofs.Balancing.{balances-refused, balances-accepted}
@@ -57,16 +58,16 @@ slice-aggregate-balance-rows c =
 
 balance-rows-requires : tie.Need-balance-rows-requires
 balance-rows-requires c κs =
-    let t = is-ready (c .before .before .before) in
-    let l = t .limits in
-    (l .top, omega (arith, l .sized .few, ap length (t .laid), t .size))
+    let l = is-ready (c .before .before .before) .limits in
+    (l .top, omega (arith, l .sized .few, slice-aggregate-balance-rows c))
 
 returns-2 : tie.Need-returns-2
 returns-2 c =
     let e = c .before .before .before .before .before in
     let o = e .before .before in
     let t = is-ready e in
-    balances-accepted (o .before .args .code) (t .verdict) _ (rw (t .laid) at (c .before .balance-rows .ensures))
+    let code = o .before .args .code in
+    balances-accepted code (t .verdict) _ (c .before .balance-rows .ensures ∙ ap (λ cs. balancesFrom cs (code .r) 16 0) (t .laid))
 
 pub row-balance-spec : {M : Type 1} → statement M
 row-balance-spec =
