@@ -8,3 +8,4 @@ pub mod Balancing
 pub mod Sum
 pub mod Counting
 pub mod Room
+pub mod Least

@@ -18,18 +18,10 @@ use Rattle.columns.specs.Mix.{column, units}
 use Rattle.columns.proofs.Units.{length-joined, data-at, check-past}
 use Rattle.code.specs.Rule.{matrix, Hsiao, Fine}
 use Rattle.code.specs.Wanted.{bandOf}
-use Rattle.code.proofs.Rule.{rule-of}
+use Rattle.code.proofs.Rule.{rule-of, matrix-below}
 use Rattle.code.proofs.Counting.{Stands, pigeons, stands-left, stands-right, passing, passing-at, passing-apart, passing-has, odd-half, isSingle, single-stands, both, allBelow, all-at}
 
 -- ---- no code has more columns than there are odd numbers below 2 ^ r
-
-pub matrix-below : (columns : List ℕ) (r : ℕ) → Hsiao columns r → (p : ℕ) → p < length (matrix columns r) → column (matrix columns r) p < 2 ^ r
-matrix-below columns r s p h =
-    let n = length-joined columns r in
-    ⊎-elim
-    (λ (l : p < length columns). rw (data-at columns r p l) (s .below p l))
-    (λ (l : length columns ≤ p). rw (check-past columns r p l (omega arith)) (pow-lt (omega arith)))
-    (below-or-not p (length columns))
 
 pub room : (columns : List ℕ) (r : ℕ) → 1 ≤ r → Hsiao columns r → length columns + r ≤ 2 ^ (r - 1)
 room columns r h s =

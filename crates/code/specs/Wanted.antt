@@ -1,7 +1,12 @@
 -- Check bits wanted: document 01's bands of k, up to 64. Assumes nothing.
+use mathlib.Core.Path.{_≡_}
 use mathlib.Core.Bool.{cond, _||_}
-use Prim.Native.Nat.{ℕ}
+use Prim.Native.Nat.{ℕ, _^_, _<_}
 use lib.Dec.{eqb, ltb, leb}
+use lib.ListN.{length, getD}
+use Rattle.code.specs.declared.Code.{Code}
+use Rattle.code.specs.declared.Judged.the-variants.{Accepted}
+use Rattle.code.specs.Judge.{judgeOf}
 use Rattle.code.specs.declared.Wanted.{Wanted}
 use Rattle.code.specs.declared.Wanted.the-variants.{Bits, NoSuch}
 
@@ -26,3 +31,12 @@ wantedNumber NoSuch = 1
 abbrev pub wantedBits : Wanted → ℕ
 wantedBits (Bits r) = r
 wantedBits NoSuch = 0
+
+-- a code of k data bits and r check bits, as it is handed about, that the judge accepts
+pub record Exists (k r : ℕ) : Type 0 where
+  pub code : Code
+  pub bits : code .k ≡ k
+  pub checks : code .r ≡ r
+  pub places : length (code .columns) ≡ 64
+  pub fits : (p : ℕ) → p < 64 → getD (code .columns) p 0 < 2 ^ 16
+  pub verdict : judgeOf code ≡ Accepted
