@@ -46,19 +46,21 @@ wanted-exists k some few =
       code = record { columns = padded 64 cs; k = k; r = r };
       bits = refl;
       checks = refl;
-      places = padded-length 64 cs (omega (arith, f .1));
       fits = λ p l. padded-below 64 cs (omega (arith, f .1)) (2 ^ 16) p (pow-pos 16) (λ i u. omega (arith, f .2 .below i u)) l;
-      verdict = judge-rule 64 (padded 64 cs) k r .1 (record {
-        limits = record { sized = record { some = some; few = few }; least = b .0; top = omega (arith, b .1) };
-        rule = rw same (f .2);
-      });
+      taken = record {
+        places = padded-length 64 cs (omega (arith, f .1));
+        verdict = judge-rule 64 (padded 64 cs) k r .1 (record {
+          limits = record { sized = record { some = some; few = few }; least = b .0; top = omega (arith, b .1) };
+          rule = rw same (f .2);
+        });
+      };
     }
 
 pub wanted-least : (k r : ℕ) → 1 ≤ k → k ≤ 64 → Exists k r → bandOf k ≤ r
 wanted-least k r some few x =
     let c = x .code in
-    let s = judge-rule 64 (c .columns) (c .k) (c .r) .0 (x .verdict) in
-    let n = length-take-le (c .k) (c .columns) (omega (arith, s .limits .sized .few, x .places)) in
+    let s = judge-rule 64 (c .columns) (c .k) (c .r) .0 (x .taken .verdict) in
+    let n = length-take-le (c .k) (c .columns) (omega (arith, s .limits .sized .few, x .taken .places)) in
     let full = room (take (c .k) (c .columns)) (c .r) (omega (arith, s .limits .least)) (s .rule) in
     ⊎-elim
     (λ (l : r < bandOf k).

@@ -10,6 +10,7 @@ use Rattle.columns.specs.Mix.{column, units}
 use Rattle.columns.specs.Rule.{Good}
 use Rattle.code.specs.declared.Code.{Code}
 use Rattle.code.specs.declared.Judged.{Judged}
+use Rattle.code.specs.Judge.{judgeOf}
 use Rattle.code.specs.declared.Judged.the-variants.{Accepted, NoData, NoChecks, TooWide, EvenColumn, SingleOne, Repeated}
 
 -- the n columns of a code: the data columns, then the check columns 1, 2, 4, .. 2 ^ (r - 1)
@@ -38,6 +39,11 @@ pub record Limits (most k r : ℕ) : Type 0 where
 pub record Sound (most : ℕ) (columns : List ℕ) (k r : ℕ) : Type 0 where
   pub limits : Limits most k r
   pub rule : Hsiao (take k columns) r
+
+-- a code as it is handed about, with its 64 places, that the judge accepts
+pub record AcceptedCode (code : Code) : Type 0 where
+  pub places : length (code .columns) ≡ 64
+  pub verdict : judgeOf code ≡ Accepted
 
 -- ---- rows 3 to 6 of the table, for the column at place i
 

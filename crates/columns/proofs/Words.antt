@@ -48,3 +48,7 @@ flip-high k d c p h =
 -- a one moved up by j places, in any width above j
 pub shl-one : (w j : ℕ) → j < w → (1 * 2 ^ j) % 2 ^ w ≡ 2 ^ j
 shl-one w j h = shl-exact {a = 1} 1 j w (omega arith) (omega arith) ∙ one-mul (2 ^ j)
+
+-- a flip of a place below n leaves a word of n places
+pub flip-lt : (n w p : ℕ) → w < 2 ^ n → p < n → flip w p < 2 ^ n
+flip-lt n w p h l = xor-lt n w (2 ^ p) h (pow-lt l)

@@ -1,2 +1,3 @@
 pub mod Cases
 pub mod Syndromes
+pub mod Verdicts
