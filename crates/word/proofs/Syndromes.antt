@@ -53,11 +53,12 @@ check-fits k r w h =
 
 -- ---- one syndrome
 
-pub syndrome-mix : (columns : List ℕ) (r a b : ℕ) → a < 2 ^ length columns → b < 2 ^ r
-    → syndromeOf (matrix columns r) (length columns) a b ≡ mix (matrix columns r) (wordOf (length columns) a b)
-syndrome-mix columns r a b h l =
-    ap (λ (cs : List ℕ). bitXor (mix cs a) b) (take-at columns (units r) (length columns) refl)
-    ∙ sym (mix-append columns (units r) a b h ∙ ap (bitXor (mix columns a)) (mix-identity r b l))
+module _ (columns : List ℕ) (r a b : ℕ) (data-low : a < 2 ^ length columns) (check-low : b < 2 ^ r) where
+  pub whole-mix : mix (matrix columns r) (wordOf (length columns) a b) ≡ bitXor (mix columns a) b
+  whole-mix = mix-append columns (units r) a b data-low ∙ ap (bitXor (mix columns a)) (mix-identity r b check-low)
+
+  pub syndrome-mix : syndromeOf (matrix columns r) (length columns) a b ≡ mix (matrix columns r) (wordOf (length columns) a b)
+  syndrome-mix = ap (λ (cs : List ℕ). bitXor (mix cs a) b) (take-at columns (units r) (length columns) refl) ∙ sym whole-mix
 
 -- ---- a flip below k changes the data, one from k on the check bits
 
