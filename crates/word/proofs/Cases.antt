@@ -20,7 +20,7 @@ use Rattle.code.specs.Rule.{matrixOf}
 use Rattle.word.specs.declared.Reading.{Reading}
 use Rattle.word.specs.declared.Reading.the-variants.{Refused, Stray, Clean, Data, Check, Even, Odd}
 use Rattle.word.specs.declared.Written.the-variants as written
-use Rattle.word.specs.Word.{strays}
+use Rattle.word.specs.Word.{strays, strayIn}
 use Rattle.word.specs.Writing.{checksOf, writeOf}
 use Rattle.word.specs.Reading.{asRead, verdictOn, syndromeOf, readIn, readOf}
 
@@ -66,17 +66,17 @@ stray-shift width bits = go (strays width bits) refl
 -- ---- a word under the n columns
 
 module _ (cs : List ℕ) (k low high : ℕ) where
-  pub in-stray-data : strays k low ≡ true → readIn cs k low high ≡ Stray
+  pub in-stray : strayIn (length cs) k low high ≡ true → readIn cs k low high ≡ Stray
   unfolding readIn
-  in-stray-data h = simp h
+  in-stray h = simp h
 
-  pub in-stray-check : strays k low ≡ false → strays (length cs - k) high ≡ true → readIn cs k low high ≡ Stray
+  pub in-verdict : strayIn (length cs) k low high ≡ false → readIn cs k low high ≡ verdictOn cs k (syndromeOf cs k low high) low high
   unfolding readIn
-  in-stray-check h g = simp (h, g)
+  in-verdict h = simp h
 
-  pub in-verdict : strays k low ≡ false → strays (length cs - k) high ≡ false → readIn cs k low high ≡ verdictOn cs k (syndromeOf cs k low high) low high
-  unfolding readIn
-  in-verdict h g = simp (h, g)
+-- bits below 2 ^ k and 2 ^ (n - k) are no stray ones
+pub no-stray : (n k low high : ℕ) → low < 2 ^ k → high < 2 ^ (n - k) → strayIn n k low high ≡ false
+no-stray n k low high h l = simp (lt-leb (2 ^ k) low h, lt-leb (2 ^ (n - k)) high l)
 
 -- ---- a code first
 

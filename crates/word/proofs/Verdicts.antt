@@ -6,7 +6,7 @@ use mathlib.Core.Logic.{_≢_, _⊎_, ⊎-elim, _↔_}
 use mathlib.Core.List.{List}
 use Prim.Native.Nat.{ℕ, _+_, _-_, _%_, _^_, _≤_, _<_}
 use native.Mathlib.Omega.{arith}
-use borrow.Author.Tests.{ltb-true, ltb-false, eqb-true, eqb-false, lt-leb}
+use borrow.Author.Tests.{ltb-true, ltb-false, eqb-true, eqb-false}
 use lib.Bits.{bitXor}
 use lib.Dec.{eqb, ltb}
 use lib.ListN.{length, take}
@@ -30,7 +30,7 @@ use Rattle.word.specs.declared.Reading.the-variants.{Refused, Stray, Cle
 use Rattle.word.specs.Word.{wordOf, dataOf, checkOf, strays}
 use Rattle.word.specs.Reading.{asRead, verdictOn, syndromeOf, readIn, readOf, readWord}
 use Rattle.word.specs.Verdicts.{placesOf, Unstrayed, wordAt, ReadsClean, syndrome, Row}
-use Rattle.word.proofs.Cases.{on-clean, on-data, on-check, on-even, on-odd, in-verdict, read-accepted}
+use Rattle.word.proofs.Cases.{on-clean, on-data, on-check, on-even, on-odd, in-verdict, no-stray, read-accepted}
 use Rattle.word.proofs.Syndromes.{parts-whole, data-fits, check-fits, syndrome-mix, flip-data, flip-check}
 
 module _ (code : Code) (taken : AcceptedCode code) where
@@ -61,8 +61,8 @@ module _ (code : Code) (taken : AcceptedCode code) where
         let c = check-fits (code .k) (code .r) w fits in
         let e : length (matrixOf code) - code .k ≡ code .r = omega (arith, size) in
         read-accepted code (dataOf (code .k) w) (checkOf (code .k) w) (taken .verdict)
-        ∙ in-verdict (matrixOf code) (code .k) (dataOf (code .k) w) (checkOf (code .k) w) (lt-leb (2 ^ code .k) (dataOf (code .k) w) d)
-        (rw e (lt-leb (2 ^ code .r) (checkOf (code .k) w) c))
+        ∙ in-verdict (matrixOf code) (code .k) (dataOf (code .k) w) (checkOf (code .k) w)
+        (no-stray (length (matrixOf code)) (code .k) (dataOf (code .k) w) (checkOf (code .k) w) d (rw e c))
         ∙ ap (λ (s : ℕ). verdictOn (matrixOf code) (code .k) s (dataOf (code .k) w) (checkOf (code .k) w)) same-syndrome
 
     -- the word with one place flipped, in its two parts
@@ -99,8 +99,7 @@ module _ (code : Code) (taken : AcceptedCode code) where
         go false false false true hz hd hc he = (eqb-false (syndrome code w) 0 hz, eqb-true (oddOnes (syndrome code w)) 0 he, refl)
         go false false false false hz hd hc he =
             let n = eqb-false (oddOnes (syndrome code w)) 0 he in
-            let u = ltb-false (placeIn (matrixOf code) (syndrome code w)) (length (matrixOf code)) hc in
-            (
+            let u = ltb-false (placeIn (matrixOf code) (syndrome code w)) (length (matrixOf code)) hc in (
               omega arith,
               λ p l e.
                   let h : p < length (matrixOf code) = omega (arith, size) in
