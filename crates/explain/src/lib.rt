@@ -1,0 +1,2 @@
+// The list of explanations of a word.
+ghost use mathlib.Core.Path.{_≡_};
