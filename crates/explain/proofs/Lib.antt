@@ -5,3 +5,5 @@ pub mod Order
 pub mod Pigeons
 pub mod Few
 pub mod Facts
+pub mod Over
+pub mod Walk

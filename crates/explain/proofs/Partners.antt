@@ -6,8 +6,8 @@ use Prim.Native.Nat.{ℕ, zero, suc, _+_, _-_, _≤_, _<_}
 use native.Mathlib.Numerals.{add-one}
 use native.Mathlib.Omega.{arith}
 use lib.Bits.{bitXor, xor-comm}
-use lib.ListN.{length, getD, drop, length-drop}
-use lib.Seq.{getD-drop}
+use lib.ListN.{length, getD, take, drop, length-drop}
+use lib.Seq.{getD-drop, take-all}
 use Rattle.parity.specs.Odd.{Parity}
 use Rattle.parity.proofs.Xor.{xor-undo}
 use Rattle.columns.specs.Mix.{column, placeIn}
@@ -36,6 +36,16 @@ module _ (cs : List ℕ) (s p : ℕ) where
   pub from-least : p ≤ placeFrom cs s p
   unfolding placeFrom
   from-least = omega arith
+
+  pub from-most : p ≤ length cs → placeFrom cs s p ≤ length cs
+  unfolding placeFrom
+  from-most h = omega (arith, place-le (drop p cs) s, length-drop p cs)
+
+  -- the part of the columns from p on is searched
+  pub from-part : (k r : ℕ) → length cs - p ≡ k → r ≡ placeIn (take k (drop p cs)) s → p + r ≡ placeFrom cs s p
+  unfolding placeFrom
+  from-part k r e f =
+      ap (λ (x : ℕ). p + x) (f ∙ ap (λ (l : List ℕ). placeIn l s) (take-all k (drop p cs) (omega (arith, length-drop p cs))))
 
   -- where there is one, its column is s
   pub from-hit : placeFrom cs s p < length cs → column cs (placeFrom cs s p) ≡ s

@@ -1,7 +1,8 @@
 -- Sets of places, each written in rising order; those of them that pass a test; and the bytes of a list of sets. Assumes nothing.
 use mathlib.Core.Bool.{Bool, cond}
 use mathlib.Core.List.{List, [], _∷_, _++_, map}
-use Prim.Native.Nat.{ℕ, zero, suc}
+use Prim.Native.Nat.{ℕ, zero, suc, _/_}
+use lib.Dec.{leb}
 use lib.ListN.{length, drop}
 use Rattle.columns.specs.Mix.{flip}
 
@@ -40,3 +41,7 @@ bytesFor (ps ∷ rest) = entryOf ps ++ bytesFor rest
 -- d with p in the place of its first elements
 abbrev pub over : List ℕ → List ℕ → List ℕ
 over p d = p ++ drop (length p) d
+
+-- d with the entries of a list in its first bytes, where there is room for all of them: two bytes each
+unfoldable pub written : List (List ℕ) → List ℕ → List ℕ
+written l d = cond (leb (length l) (length d / 2)) (over (bytesFor l) d) d
