@@ -1,6 +1,7 @@
 pub mod Sets
 pub mod Partners
 pub mod Heart
+pub mod Cases
 pub mod Order
 pub mod Pigeons
 pub mod Few

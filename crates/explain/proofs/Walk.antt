@@ -27,6 +27,12 @@ unfolding bytesFor
 bytes-append [] b = refl
 bytes-append (ps ∷ a) b = ap (λ (l : List ℕ). entryOf ps ++ l) (bytes-append a b) ∙ sym (append-assoc (entryOf ps) (bytesFor a) (bytesFor b))
 
+-- a list of one entry
+pub put-one : (l : List (List ℕ)) (then : List ℕ) (x y : ℕ) → bytesFor l ≡ x ∷ y ∷ [] → 2 * length l ≤ length then → set (set then 0 x) 1 y ≡ over (bytesFor l) then
+put-one l then x y e h =
+    let two : length (bytesFor l) ≡ 2 = ap length e in
+    over-entry [] then 0 x y refl (omega (arith, length-bytes l)) ∙ ap (λ (b : List ℕ). over b then) (sym e)
+
 -- ---- the pairs of a part of the places
 
 -- m places from p on: a of them, and the others from q on
