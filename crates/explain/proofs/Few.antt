@@ -1,5 +1,5 @@
 -- No place stands in two pairs, so n places give at most n / 2 entries. Assumes nothing.
-use mathlib.Core.Path.{_≡_, refl, sym, ap, ap₂, _∙_}
+use mathlib.Core.Path.{_≡_, refl}
 use mathlib.Core.Logic.{inl, inr, ⊎-elim}
 use mathlib.Core.Bool.{Bool, true, false, cond}
 use mathlib.Core.List.{List, [], _∷_}
@@ -9,7 +9,7 @@ use lib.Dec.{eqb, ltb}
 use lib.ListN.{length, getD}
 use Rattle.parity.proofs.Xor.{by-digits}
 use Rattle.columns.specs.Mix.{placeIn}
-use Rattle.columns.specs.Rule.{Good, Pair}
+use Rattle.columns.specs.Rule.{Good}
 use Rattle.columns.proofs.Errors.{pairs-apart}
 use Rattle.explain.specs.BySyndrome.{pairsBy, bySyndrome}
 use Rattle.explain.proofs.Order.{PairFrom, pairs-at, pairs-in-order}

@@ -5,7 +5,7 @@ use mathlib.Core.Bool.{Bool, true, false, cond, true≢false}
 use mathlib.Core.List.{List, [], _∷_, _++_, map, append-nil}
 use Prim.Native.Nat.{ℕ, zero, suc, _+_, _≤_, _<_}
 use native.Mathlib.Omega.{arith}
-use borrow.Author.Tests.{eq-eqb, ne-eqb, eqb-true, eqb-false, le-ltb, lt-ltb, ltb-true, ltb-false}
+use borrow.Author.Tests.{eqb-true, eqb-false, le-ltb, lt-ltb, ltb-true}
 use lib.Bits.{bitXor}
 use lib.Dec.{eqb, ltb}
 use lib.ListN.{length}
@@ -17,9 +17,10 @@ use Rattle.columns.proofs.Linear.{mix-flip}
 use Rattle.columns.proofs.Errors.{column-nonzero}
 use Rattle.columns.proofs.Places.{place-none}
 use Rattle.explain.specs.Sets.{flipAll, chosen, setsUpTo, those}
+use Rattle.explain.specs.Order.{SetOf}
 use Rattle.explain.specs.BySyndrome.{clears, clearing, placeFrom, partnerOf, pairAt, pairsFrom, pairsBy, bySyndrome}
-use Rattle.explain.proofs.Sets.{those-append, those-map}
-use Rattle.explain.proofs.Partners.{from-zero, from-here, from-next, from-past, from-hit, from-least, partner-pair, zero-no-pair, column-no-pair}
+use Rattle.explain.proofs.Sets.{those-append, those-map, those-same, sets-in}
+use Rattle.explain.proofs.Partners.{from-zero, from-here, from-next, from-hit, from-least, partner-pair, zero-no-pair, column-no-pair}
 
 -- the first place from p on whose column is s, alone, where there is one
 oneFrom : List ℕ → ℕ → ℕ → List (List ℕ)
@@ -110,6 +111,12 @@ module _ {odd : ℕ → ℕ} {cs : List ℕ} (g : Good odd cs) where
     unfolding oneFrom
     singles = rw (from-zero cs (mix cs w)) at (ones-from w (length cs) 0 (omega arith))
 
+    none-or-one : those (clears cs w) (setsUpTo (length cs) 1)
+        ≡ cond (eqb (mix cs w) 0) ([] ∷ []) [] ++ cond (ltb (placeIn cs (mix cs w)) (length cs)) ((placeIn cs (mix cs w) ∷ []) ∷ []) []
+    unfolding setsUpTo
+    none-or-one =
+        those-append (clears cs w) (chosen 0 (length cs) 0) (chosen 1 (length cs) 0) ∙ ap₂ (λ (a b : List (List ℕ)). a ++ b) none singles
+
     pairs : those (clears cs w) (chosen 2 (length cs) 0) ≡ pairsBy cs (mix cs w)
     pairs = pairs-from w (length cs) 0 (omega arith)
 
@@ -138,15 +145,18 @@ module _ {odd : ℕ → ℕ} {cs : List ℕ} (g : Good odd cs) (o : Parity odd) 
   unfolding setsUpTo bySyndrome
   heart w zero h = none g w
   heart w (suc zero) h =
-      those-append (clears cs w) (chosen 0 (length cs) 0) (chosen 1 (length cs) 0)
-      ∙ ap₂ (λ (a b : List (List ℕ)). a ++ b) (none g w) (singles g w)
-      ∙ sym (append-nil (cond (eqb (mix cs w) 0) ([] ∷ []) [] ++ cond (ltb (placeIn cs (mix cs w)) (length cs)) ((placeIn cs (mix cs w) ∷ []) ∷ []) []))
+      sym (append-nil (those (clears cs w) (setsUpTo (length cs) 1)))
+      ∙ ap (λ (l : List (List ℕ)). l ++ []) (none-or-one g w)
       ∙ first-of (eqb (mix cs w) 0) (ltb (placeIn cs (mix cs w)) (length cs)) (placeIn cs (mix cs w) ∷ []) [] (zero-no-column (mix cs w)) (λ e. refl) (λ e. refl)
   heart w (suc (suc zero)) h =
-      those-append (clears cs w) (chosen 0 (length cs) 0 ++ chosen 1 (length cs) 0) (chosen 2 (length cs) 0)
-      ∙ ap₂ (λ (a b : List (List ℕ)). a ++ b)
-      (those-append (clears cs w) (chosen 0 (length cs) 0) (chosen 1 (length cs) 0) ∙ ap₂ (λ (a b : List (List ℕ)). a ++ b) (none g w) (singles g w))
-      (pairs g w)
+      those-append (clears cs w) (setsUpTo (length cs) 1) (chosen 2 (length cs) 0)
+      ∙ ap₂ (λ (a b : List (List ℕ)). a ++ b) (none-or-one g w) (pairs g w)
       ∙ first-of (eqb (mix cs w) 0) (ltb (placeIn cs (mix cs w)) (length cs)) (placeIn cs (mix cs w) ∷ []) (pairsBy cs (mix cs w)) (zero-no-column (mix cs w))
       (zero-no-pairs (mix cs w)) (column-no-pairs (mix cs w))
   heart w (suc (suc (suc limit))) h = absurd (omega arith)
+
+  -- for any test that asks the same of the sets that there are
+  pub heart-by : (t : List ℕ → Bool) (w limit : ℕ) → limit ≤ 2 → ((ps : List ℕ) → SetOf (length cs) limit ps → t ps ≡ clears cs w ps)
+      → those t (setsUpTo (length cs) limit) ≡ bySyndrome cs (mix cs w) limit
+  heart-by t w limit h same =
+      those-same t (clears cs w) (setsUpTo (length cs) limit) (λ ps m. same ps (sets-in (length cs) limit ps m)) ∙ heart w limit h

@@ -1,4 +1,5 @@
 pub mod Sets
+pub mod Flips
 pub mod Partners
 pub mod Heart
 pub mod Cases

@@ -1,8 +1,8 @@
 -- The first place from p on with a given column, and the partner of a place in a pair. Assumes nothing.
-use mathlib.Core.Path.{_≡_, refl, sym, ap, _∙_}
+use mathlib.Core.Path.{_≡_, sym, ap, _∙_}
 use mathlib.Core.Logic.{_≢_}
-use mathlib.Core.List.{List, [], _∷_}
-use Prim.Native.Nat.{ℕ, zero, suc, _+_, _-_, _≤_, _<_}
+use mathlib.Core.List.{List}
+use Prim.Native.Nat.{ℕ, suc, _+_, _-_, _≤_, _<_}
 use native.Mathlib.Numerals.{add-one}
 use native.Mathlib.Omega.{arith}
 use lib.Bits.{bitXor, xor-comm}
@@ -29,10 +29,6 @@ module _ (cs : List ℕ) (s p : ℕ) where
   unfolding placeFrom
   from-next h e = omega (arith, rw (add-one p) at (place-next cs s p h e))
 
-  pub from-past : length cs ≤ p → placeFrom cs s p ≡ p
-  unfolding placeFrom
-  from-past h = omega (arith, place-past cs s p h)
-
   pub from-least : p ≤ placeFrom cs s p
   unfolding placeFrom
   from-least = omega arith
@@ -54,16 +50,6 @@ module _ (cs : List ℕ) (s p : ℕ) where
       sym (getD-drop p cs (placeIn (drop p cs) s) 0)
       ∙ place-hit (drop p cs) s (omega (arith, length-drop p cs))
 
-  -- no earlier one has it
-  pub from-first : (q : ℕ) → p ≤ q → q < length cs → column cs q ≡ s → placeFrom cs s p ≤ q
-  unfolding placeFrom
-  from-first q l h e =
-      let back : p + (q - p) ≡ q = omega arith in
-      omega (
-        arith,
-        place-first (drop p cs) s (q - p) (omega (arith, length-drop p cs)) (getD-drop p cs (q - p) 0 ∙ ap (λ (x : ℕ). getD cs x 0) back ∙ e),
-      )
-
 -- a place and its partner are a pair
 pub partner-pair : (cs : List ℕ) (s p : ℕ) → partnerOf cs s p < length cs → Pair cs s p (partnerOf cs s p)
 partner-pair cs s p h = record {
@@ -72,23 +58,7 @@ partner-pair cs s p h = record {
   makes = rw (from-hit cs (bitXor s (column cs p)) (suc p) h, xor-comm s (column cs p)) (xor-undo (column cs p) s);
 }
 
--- the columns of a pair: one is s with the other taken away
-pub pair-column : (cs : List ℕ) (s p q : ℕ) → Pair cs s p q → column cs q ≡ bitXor s (column cs p)
-pair-column cs s p q a =
-    sym (xor-undo (column cs p) (column cs q)) ∙ ap (bitXor (column cs p)) (a .makes) ∙ xor-comm (column cs p) s
-
 module _ {odd : ℕ → ℕ} {cs : List ℕ} (g : Good odd cs) where
-  -- among columns that differ, the place that has it is the only one
-  pub from-found : (s p q : ℕ) → p ≤ q → q < length cs → column cs q ≡ s → placeFrom cs s p ≡ q
-  from-found s p q l h e =
-      let first : placeFrom cs s p ≤ q = from-first cs s p q l h e in
-      let inside : placeFrom cs s p < length cs = omega arith in
-      g .apart (placeFrom cs s p) q inside h (from-hit cs s p inside ∙ sym e)
-
-  -- a pair is a place and its partner
-  pub pair-partner : (s p q : ℕ) → Pair cs s p q → partnerOf cs s p ≡ q
-  pair-partner s p q a = from-found (bitXor s (column cs p)) (suc p) q (a .order) (a .inside) (pair-column cs s p q a)
-
   -- no pair makes 0
   pub zero-no-pair : (p q : ℕ) → Pair cs 0 p q → ⊥
   zero-no-pair p q a = pair-nonzero g p q (omega arith) (a .inside) (λ e. omega arith) (a .makes)

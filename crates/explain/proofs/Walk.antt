@@ -1,10 +1,9 @@
 -- For a loop that walks the lower places: the pairs found so far, one place more, and their bytes. Assumes nothing.
-use mathlib.Core.Path.{_≡_, refl, sym, ap, ap₂, _∙_}
+use mathlib.Core.Path.{_≡_, refl, sym, ap, _∙_}
 use mathlib.Core.List.{List, [], _∷_, _++_, append-assoc, append-nil}
 use Prim.Native.Nat.{ℕ, zero, suc, _+_, _*_, _-_, _≤_, _<_}
 use native.Mathlib.Omega.{arith}
 use borrow.Author.Tests.{lt-ltb, le-ltb}
-use lib.Dec.{ltb}
 use lib.ListN.{length, set, length-append}
 use Rattle.explain.specs.Sets.{entryOf, bytesFor, over}
 use Rattle.explain.specs.BySyndrome.{partnerOf, pairAt, pairsFrom}

@@ -1,31 +1,24 @@
-use mathlib.Core.Path.{_≡_, sym, ap, _∙_}
+-- `explain::count_entries` meets its contract, case by case. Assumes nothing.
+use mathlib.Core.Path.{sym, ap, _∙_}
 use borrow.Author.Needs.{needs}
 use lib.ListN.{length}
 use Rattle.explain.proofs.Cases.{by-zero, by-none, by-place, by-no-place, by-pairs}
 use Rattle.explain.proofs.count_entries.Statement.{statement}
 use Rattle.explain.proofs.count_entries.Tie as tie
-use Rattle.explain.proofs.count_entries.Reads as reads
-use Rattle.explain.proofs.count_entries.Lts as lts
-use Rattle.columns.proofs.place_in.Reads as place-in-reads
-use Rattle.explain.proofs.count_pairs.Reads as count-pairs-reads
 
--- src/lib.rt:40:9
 returns : tie.Need-returns
 returns c =
     let a = c .before .before .args in
     ap length (sym (by-zero (a .columns .now) (a .s) (a .limit) (c .if1 .taken)))
 
--- src/lib.rt:43:9
 returns-2 : tie.Need-returns-2
 returns-2 c =
     let a = c .before .before .before .args in
     ap length (sym (by-none (a .columns .now) (a .s) (a .limit) (c .before .if1 .left) (c .if2 .taken)))
 
--- src/lib.rt:45:8
 place-in-requires : tie.Need-place-in-requires
 place-in-requires c κs = search needs
 
--- src/lib.rt:46:9
 returns-3 : tie.Need-returns-3
 returns-3 c =
     let e = c .before .before in
@@ -33,7 +26,6 @@ returns-3 c =
     ap length
     (sym (by-place (a .columns .now) (a .s) (a .limit) (e .before .if1 .left) (e .if2 .left) (c .before .place-in .result) (c .before .place-in .ensures) (c .if3 .taken)))
 
--- src/lib.rt:49:9
 returns-4 : tie.Need-returns-4
 returns-4 c =
     let d = c .before .before in
@@ -43,11 +35,9 @@ returns-4 c =
     (sym
     (by-no-place (a .columns .now) (a .s) (a .limit) (e .before .if1 .left) (e .if2 .left) (d .place-in .result) (d .place-in .ensures) (c .before .if3 .left) (c .if4 .taken)))
 
--- src/lib.rt:51:5
 count-pairs-requires : tie.Need-count-pairs-requires
 count-pairs-requires c κs = search needs
 
--- src/lib.rt:36:1
 returns-5 : tie.Need-returns-5
 returns-5 c =
     let k = c .before in

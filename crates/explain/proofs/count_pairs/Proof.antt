@@ -1,5 +1,6 @@
-use Prim.Native.Nat.{ℕ, _+_, _-_, _≤_}
-use mathlib.Core.Path.{_≡_, refl, sym, ap, _∙_}
+-- `explain::count_pairs` meets its contract. The invariant: the count is that of the pairs whose lower place was passed. Assumes nothing.
+use Prim.Native.Nat.{_-_, _≤_}
+use mathlib.Core.Path.{_≡_, refl, ap}
 use native.Mathlib.Omega.{arith}
 use borrow.Author.Needs.{needs}
 use lib.ListN.{length}
@@ -7,9 +8,6 @@ use Rattle.explain.specs.BySyndrome.{pairsFrom}
 use Rattle.explain.proofs.Walk.{next-missing, count-found}
 use Rattle.explain.proofs.count_pairs.Statement.{statement}
 use Rattle.explain.proofs.count_pairs.Tie as tie
-use Rattle.explain.proofs.count_pairs.Reads as reads
-use Rattle.explain.proofs.count_pairs.Lts as lts
-use Rattle.explain.proofs.partner.Reads as partner-reads
 
 abbrev Inv-loop : tie.InvT-loop
 Inv-loop columns s n count₀ p₀ count p = (p ≤ n) × (n ≡ length columns) × (count ≡ length (pairsFrom columns s p 0)) × (count ≤ p)
@@ -17,28 +15,22 @@ Inv-loop columns s n count₀ p₀ count p = (p ≤ n) × (n ≡ length columns)
 abbrev μ-loop : tie.MeasureT-loop
 μ-loop columns s n count₀ p₀ count p = n - p
 
--- src/lib.rt:25:5
 loop-holds : tie.Need-loop-holds Inv-loop μ-loop
 unfolding pairsFrom
 loop-holds c = search needs
 
--- src/lib.rt:26:13
 partner-requires : tie.Need-partner-requires Inv-loop μ-loop
 partner-requires c κs = search needs
 
--- src/lib.rt:27:9
 add-p : tie.Need-add-p Inv-loop μ-loop
 add-p c = search needs
 
--- src/lib.rt:29:13
 add-count : tie.Need-add-count Inv-loop μ-loop
 add-count c = search needs
 
--- src/lib.rt:25:5
 loop-less : tie.Need-loop-less Inv-loop μ-loop
 loop-less c = search needs
 
--- src/lib.rt:25:5
 loop-again : tie.Need-loop-again Inv-loop μ-loop
 loop-again c =
     let at = c .before .before .before in
@@ -46,11 +38,9 @@ loop-again c =
     let next = count-found (a .columns .now) (a .s) (at .loop .p) (c .before .partner .result) (c .before .partner .ensures) (c .if1 .taken) in
     (omega arith, refl, omega arith, omega arith)
 
--- src/lib.rt:25:5
 loop-less-2 : tie.Need-loop-less-2 Inv-loop μ-loop
 loop-less-2 c = search needs
 
--- src/lib.rt:25:5
 loop-again-2 : tie.Need-loop-again-2 Inv-loop μ-loop
 loop-again-2 c =
     let at = c .before .before .before in
@@ -58,7 +48,6 @@ loop-again-2 c =
     let next = ap length (next-missing (a .columns .now) (a .s) (at .loop .p) (c .before .partner .result) (c .before .partner .ensures) (c .if1 .left)) in
     (omega arith, refl, omega arith, omega arith)
 
--- src/lib.rt:19:1
 returns : tie.Need-returns Inv-loop μ-loop
 returns c =
     let at = c .before in

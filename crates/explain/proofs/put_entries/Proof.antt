@@ -1,6 +1,7 @@
-use mathlib.Core.Path.{_≡_, refl, sym, ap, _∙_}
+-- `explain::put_entries` meets its contract, case by case. Assumes nothing.
+use mathlib.Core.Path.{_≡_, sym, ap, _∙_}
 use mathlib.Core.List.{List, [], _∷_}
-use Prim.Native.Nat.{ℕ, _≤_}
+use Prim.Native.Nat.{ℕ}
 use native.Mathlib.Omega.{arith}
 use borrow.Author.Needs.{needs}
 use lib.ListN.{length, length-set}
@@ -10,10 +11,6 @@ use Rattle.explain.proofs.Cases.{by-zero, by-none, by-place, by-no-plac
 use Rattle.explain.proofs.Walk.{put-one}
 use Rattle.explain.proofs.put_entries.Statement.{statement}
 use Rattle.explain.proofs.put_entries.Tie as tie
-use Rattle.explain.proofs.put_entries.Reads as reads
-use Rattle.explain.proofs.put_entries.Lts as lts
-use Rattle.columns.proofs.place_in.Reads as place-in-reads
-use Rattle.explain.proofs.put_pairs.Reads as put-pairs-reads
 
 -- the list in each case
 clean : (c : tie.Then1) → let a = c .before .before .before .args in bySyndrome (a .columns .now) (a .s) (a .limit) ≡ [] ∷ []
@@ -35,19 +32,15 @@ many c =
     let a = e .before .before .before .before .args in
     by-pairs (a .columns .now) (a .s) (a .limit) (e .before .if1 .left) (e .if2 .left) (d .place-in .result) (d .place-in .ensures) (c .before .if3 .left) (c .if4 .left)
 
--- src/lib.rt:80:9
 slice-write-list : tie.Need-slice-write-list
 slice-write-list c = omega (arith, ap length (clean c))
 
--- src/lib.rt:81:9
 slice-write-list-2 : tie.Need-slice-write-list-2
 slice-write-list-2 c = simp length-set (omega (arith, ap length (clean c)))
 
--- src/lib.rt:82:9
 same-length : tie.Need-same-length
 same-length c = search needs
 
--- src/lib.rt:82:9
 returns : tie.Need-returns
 unfolding bytesFor
 returns c =
@@ -55,34 +48,27 @@ returns c =
     let a = s .args in
     put-one (bySyndrome (a .columns .now) (a .s) (a .limit)) (a .list .now) 255 255 (ap bytesFor (clean c)) (s .pre .1)
 
--- src/lib.rt:85:9
 returns-2 : tie.Need-returns-2
 unfolding bytesFor
 returns-2 c =
     let a = c .before .before .before .before .args in
     ap (λ (l : List (List ℕ)). over (bytesFor l) (a .list .now)) (sym (by-none (a .columns .now) (a .s) (a .limit) (c .before .if1 .left) (c .if2 .taken)))
 
--- src/lib.rt:87:9
 place-in-requires : tie.Need-place-in-requires
 place-in-requires c κs = search needs
 
--- src/lib.rt:89:19
 cast-list : tie.Need-cast-list
 cast-list c = search needs
 
--- src/lib.rt:89:9
 slice-write-list-3 : tie.Need-slice-write-list-3
 slice-write-list-3 c = omega (arith, ap length (one c))
 
--- src/lib.rt:90:9
 slice-write-list-4 : tie.Need-slice-write-list-4
 slice-write-list-4 c = simp length-set (omega (arith, ap length (one c)))
 
--- src/lib.rt:91:9
 same-length-2 : tie.Need-same-length-2
 same-length-2 c = search needs
 
--- src/lib.rt:91:9
 returns-3 : tie.Need-returns-3
 unfolding bytesFor
 returns-3 c =
@@ -90,7 +76,6 @@ returns-3 c =
     let a = s .args in
     put-one (bySyndrome (a .columns .now) (a .s) (a .limit)) (a .list .now) (c .before .place-in .result) 255 (ap bytesFor (one c)) (s .pre .1)
 
--- src/lib.rt:94:9
 returns-4 : tie.Need-returns-4
 unfolding bytesFor
 returns-4 c =
@@ -101,15 +86,12 @@ returns-4 c =
     (sym
     (by-no-place (a .columns .now) (a .s) (a .limit) (e .before .if1 .left) (e .if2 .left) (d .place-in .result) (d .place-in .ensures) (c .before .if3 .left) (c .if4 .taken)))
 
--- src/lib.rt:96:5
 put-pairs-requires : tie.Need-put-pairs-requires
 put-pairs-requires c κs = (search needs, omega (arith, ap length (many (c .before))))
 
--- src/lib.rt:75:1
 same-length-3 : tie.Need-same-length-3
 same-length-3 c = search needs
 
--- src/lib.rt:75:1
 returns-5 : tie.Need-returns-5
 returns-5 c =
     let d = c .before .before .before .before in
