@@ -57,6 +57,9 @@ module _ {odd : ℕ → ℕ} {cs : List ℕ} (g : Good odd cs) (o : Parity odd) 
   pub listed-few : 2 ≤ length cs → 2 * length (clearing cs w limit) ≤ length cs
   listed-few k = rw (heart g o w limit h) (few-entries g (mix cs w) limit k)
 
+  pub listed-most : (m : ℕ) → 2 ≤ length cs → length cs ≤ 2 * m → length (clearing cs w limit) ≤ m
+  listed-most m k l = omega (arith, listed-few k)
+
   -- from a word of syndrome 0: the empty set alone
   pub clean-listed : mix cs w ≡ 0 → clearing cs w limit ≡ [] ∷ []
   clean-listed e = heart g o w limit h ∙ by-zero cs (mix cs w) limit e

@@ -6,13 +6,13 @@ use Prim.Native.Nat.{ℕ, suc, _+_, _-_, _≤_, _<_}
 use native.Mathlib.Numerals.{add-one}
 use native.Mathlib.Omega.{arith}
 use lib.Bits.{bitXor, xor-comm}
-use lib.ListN.{length, getD, take, drop, length-drop}
+use lib.ListN.{length, take, drop, length-drop}
 use lib.Seq.{getD-drop, take-all}
 use Rattle.parity.specs.Odd.{Parity}
 use Rattle.parity.proofs.Xor.{xor-undo}
 use Rattle.columns.specs.Mix.{column, placeIn}
 use Rattle.columns.specs.Rule.{Good, Pair}
-use Rattle.columns.proofs.Places.{place-le, place-hit, place-first, place-here, place-next, place-past}
+use Rattle.columns.proofs.Places.{place-le, place-hit, place-here, place-next}
 use Rattle.columns.proofs.Errors.{pair-nonzero, pair-no-column}
 use Rattle.explain.specs.BySyndrome.{placeFrom, partnerOf}
 
