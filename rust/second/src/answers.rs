@@ -1,0 +1,99 @@
+//! The answers: a number (0 done, else the table's number of the refusal), what is told, and the rest.
+//!
+//! `told` is the bad column's place for 3 to 6, the list's length for 10, the entries needed for 13. Everything that
+//! is not told is 0.
+
+/// Why a question is refused.
+#[derive(Clone, Copy, PartialEq, Eq, Debug)]
+pub struct Refusal {
+    pub number: usize,
+    pub told: usize,
+}
+
+impl Refusal {
+    /// A refusal that tells nothing but its number.
+    pub fn plain(number: usize) -> Refusal {
+        Refusal { number, told: 0 }
+    }
+}
+
+#[derive(Clone, Copy, PartialEq, Eq, Debug, Default)]
+pub struct Wanted {
+    pub number: usize,
+    pub check_bits: usize,
+}
+
+#[derive(Clone, Copy, PartialEq, Eq, Debug, Default)]
+pub struct Judged {
+    pub number: usize,
+    pub told: usize,
+}
+
+#[derive(Clone, Copy, PartialEq, Eq, Debug, Default)]
+pub struct Balanced {
+    pub number: usize,
+    pub told: usize,
+    pub rows: [i32; 16],
+}
+
+#[derive(Clone, Copy, PartialEq, Eq, Debug, Default)]
+pub struct Written {
+    pub number: usize,
+    pub told: usize,
+    pub check: u16,
+}
+
+#[derive(Clone, Copy, PartialEq, Eq, Debug, Default)]
+pub struct Reading {
+    pub number: usize,
+    pub told: usize,
+    pub verdict: usize,
+    pub place: usize,
+    pub data: u64,
+    pub check: u16,
+}
+
+#[derive(Clone, Copy, PartialEq, Eq, Debug, Default)]
+pub struct Explained {
+    pub number: usize,
+    pub told: usize,
+    /// The length of a done list.
+    pub length: usize,
+}
+
+#[derive(Clone, Copy, PartialEq, Eq, Debug, Default)]
+pub struct CardsChecked {
+    pub number: usize,
+    pub told: usize,
+    /// With number 9: the first weak card.
+    pub card: usize,
+    /// With number 9: the smallest mask on that card.
+    pub mask: usize,
+}
+
+#[derive(Clone, Copy, PartialEq, Eq, Debug, Default)]
+pub struct Passed {
+    pub number: usize,
+    pub told: usize,
+    /// How many records of the run have verdict 0 to 5.
+    pub tally: [usize; 6],
+}
+
+/// What an answer with a number and a told value is when the question is refused: the rest is 0.
+macro_rules! refused {
+    ($($answer:ident)*) => {$(
+        impl From<Refusal> for $answer {
+            fn from(refusal: Refusal) -> $answer {
+                $answer { number: refusal.number, told: refusal.told, ..$answer::default() }
+            }
+        }
+    )*};
+}
+
+impl From<Refusal> for Judged {
+    fn from(refusal: Refusal) -> Judged {
+        Judged { number: refusal.number, told: refusal.told }
+    }
+}
+
+refused!(Balanced Written Reading Explained CardsChecked Passed);

@@ -1,0 +1,160 @@
+//! Codes: sound ones of every shape, and damaged ones.
+
+use super::{Cases, HUGE};
+use crate::code::Code;
+
+/// Shapes that are asked more often: the fullest of each r, the sample's, the largest, the smallest.
+const FAVOURED: [(usize, usize); 10] =
+    [(1, 3), (4, 4), (11, 5), (8, 5), (26, 6), (57, 7), (64, 8), (64, 16), (63, 16), (1, 16)];
+
+/// The columns below 2^r with an odd count of ones, three at least.
+pub fn allowed_columns(r: usize) -> Vec<u16> {
+    let all = (0..1u32 << r).filter(|column| column.count_ones() % 2 == 1 && column.count_ones() > 1);
+    all.map(|column| column as u16).collect()
+}
+
+/// Every (k, r) for which a code exists.
+pub fn shapes(columns: &[Vec<u16>]) -> Vec<(usize, usize)> {
+    (3..=16).flat_map(|r| (1..=columns[r].len().min(64)).map(move |k| (k, r))).collect()
+}
+
+impl Cases {
+    /// A code, sound or damaged.
+    pub fn code(&mut self) -> Code {
+        if self.random.once_in(2) {
+            self.sound_code()
+        } else {
+            self.damaged_code()
+        }
+    }
+
+    /// A sound code: each shape in turn, with favoured ones between.
+    pub fn sound_code(&mut self) -> Code {
+        let (k, r) = if self.made % 3 == 2 {
+            self.random.pick(&FAVOURED)
+        } else {
+            self.shapes[(self.made - self.made / 3) % self.shapes.len()]
+        };
+        self.made += 1;
+        let columns = self.sound_columns(k, r);
+        let mut code = Code::of(&columns, r);
+        self.leave_past_k(&mut code);
+        code
+    }
+
+    /// k different allowed columns in one of five styles.
+    fn sound_columns(&mut self, k: usize, r: usize) -> Vec<u16> {
+        let mut columns = match self.random.below(8) {
+            0 => self.light[r][..k].to_vec(),
+            1 => self.columns[r][..k].to_vec(),
+            2 => self.columns[r].iter().rev().copied().take(k).collect(),
+            3 => return self.paired_columns(k, r),
+            _ => self.columns[r].clone(),
+        };
+        if columns.len() > k || self.random.once_in(2) {
+            self.random.shuffle(&mut columns, k);
+        }
+        columns.truncate(k);
+        columns
+    }
+
+    /// Columns of which as many as can be, check columns too, go in pairs with one common difference: long lists.
+    fn paired_columns(&mut self, k: usize, r: usize) -> Vec<u16> {
+        let mut drawn = self.columns[r].clone();
+        let enough = drawn.len().min(300);
+        self.random.shuffle(&mut drawn, enough);
+        let is_allowed = |column: u16| column.count_ones() > 1;
+        let difference = drawn[0] ^ 1 << self.random.below(r);
+        let mut paired: Vec<u16> = Vec::new();
+        for &column in &drawn {
+            let partner = column ^ difference;
+            if paired.len() + 2 <= k && is_allowed(partner) && !paired.contains(&column) {
+                paired.extend([column, partner]);
+            }
+            if paired.len() == 2 {
+                let of_checks = (0..r).map(|row| difference ^ 1 << row).filter(|&column| is_allowed(column));
+                let fresh: Vec<u16> = of_checks.filter(|column| !paired.contains(column)).collect();
+                paired.extend(fresh.into_iter().take(k - 2));
+            }
+        }
+        let others = drawn.into_iter().filter(|column| !paired.contains(column));
+        let others: Vec<u16> = others.take(k - paired.len()).collect();
+        [paired, others].concat()
+    }
+
+    /// What stands in the places past k is ignored: now and then it is not 0.
+    fn leave_past_k(&mut self, code: &mut Code) {
+        let style = self.random.below(6);
+        let first = code.columns[0];
+        for place in code.k.min(64)..64 {
+            code.columns[place] = match style {
+                0 | 1 => self.random.draw() as u16,
+                2 => first,
+                3 => u16::MAX,
+                _ => 0,
+            };
+        }
+    }
+
+    /// A sound code with one or two things done to it; now and then that leaves it sound.
+    pub fn damaged_code(&mut self) -> Code {
+        let mut code = self.sound_code();
+        if self.random.once_in(20) {
+            return self.any_code();
+        }
+        for _ in 0..=self.random.below(2) {
+            match self.random.below(8) {
+                0 => code.k = self.bad_k(),
+                1 => code.r = self.bad_r(),
+                _ => self.damage_column(&mut code),
+            }
+        }
+        code
+    }
+
+    fn bad_k(&mut self) -> usize {
+        if self.random.once_in(2) {
+            self.random.pick(&[0, 65, 66, 127, 128])
+        } else {
+            self.random.pick(&HUGE)
+        }
+    }
+
+    fn bad_r(&mut self) -> usize {
+        if self.random.once_in(2) {
+            self.random.pick(&[0, 1, 2, 17, 18, 32, 64])
+        } else {
+            self.random.pick(&HUGE)
+        }
+    }
+
+    /// Spoils one column among the first k.
+    fn damage_column(&mut self, code: &mut Code) {
+        let k = code.k.clamp(1, 64);
+        let r = code.r.clamp(3, 16);
+        let anywhere = self.random.below(k);
+        let place = self.random.pick(&[0, k - 1, anywhere, anywhere, anywhere]);
+        let low = 1u16 << self.random.below(r);
+        code.columns[place] = match self.random.below(8) {
+            0 => code.columns[place] ^ low,
+            1 => 0,
+            2 => 1 << self.random.below(16),
+            3 => low,
+            4 => code.columns[self.random.below(k)],
+            5 => code.columns[place] | (1u32 << r) as u16,
+            6 => code.columns[place] | 1 << self.random.below(16),
+            _ => self.random.draw() as u16,
+        };
+    }
+
+    /// Any columns, any k and r near the allowed ones.
+    fn any_code(&mut self) -> Code {
+        let k = self.random.below(70);
+        let r = self.random.below(20);
+        let mut columns = [0; 64];
+        for column in &mut columns {
+            *column = (self.random.draw() >> self.random.below(16)) as u16;
+        }
+        Code { columns, k, r }
+    }
+}

@@ -1,0 +1,148 @@
+//! The comparison: the same cases to every desk, every number and every byte of the answers.
+
+use crate::answers::{Explained, Passed};
+use crate::cases::{Cases, ImageCase, ListCase, HUGE};
+use crate::desk::Desk;
+use std::collections::BTreeMap;
+use std::fmt;
+use std::time::{Duration, Instant};
+
+/// How many cases of each question.
+#[derive(Clone, Copy, Debug)]
+pub struct Amounts {
+    pub seed: u64,
+    pub codes: usize,
+    pub words: usize,
+    pub lists: usize,
+    pub cards: usize,
+    pub images: usize,
+    pub inputs: usize,
+}
+
+impl Amounts {
+    /// The amounts of the gate.
+    pub const GATE: Amounts =
+        Amounts { seed: 1, codes: 20_000, words: 200_000, lists: 20_000, cards: 5_000, images: 2_000, inputs: 200 };
+
+    /// So many times as many cases.
+    pub fn times(self, times: usize) -> Amounts {
+        Amounts {
+            seed: self.seed,
+            codes: self.codes * times,
+            words: self.words * times,
+            lists: self.lists * times,
+            cards: self.cards * times,
+            images: self.images * times,
+            inputs: self.inputs * times,
+        }
+    }
+}
+
+/// What was asked of one question: how often, the numbers that were answered, the time of each desk.
+#[derive(Clone, Debug)]
+pub struct Line {
+    pub question: &'static str,
+    pub cases: usize,
+    pub numbers: BTreeMap<usize, usize>,
+    pub times: Vec<Duration>,
+}
+
+impl fmt::Display for Line {
+    fn fmt(&self, f: &mut fmt::Formatter) -> fmt::Result {
+        write!(f, "{:<12}{:>8} cases", self.question, self.cases)?;
+        for time in &self.times {
+            write!(f, "{:>9.3} s", time.as_secs_f64())?;
+        }
+        let numbers: Vec<String> =
+            self.numbers.iter().map(|(number, count)| format!("{}: {}", number, count)).collect();
+        write!(f, "   by number {}", numbers.join(", "))
+    }
+}
+
+/// The first case on which two desks do not agree.
+#[derive(Clone, Debug)]
+pub struct Difference {
+    pub question: &'static str,
+    pub turn: usize,
+    pub case: String,
+    pub answers: [(&'static str, String); 2],
+}
+
+impl fmt::Display for Difference {
+    fn fmt(&self, f: &mut fmt::Formatter) -> fmt::Result {
+        let short = |text: &str| text.chars().take(2_000).collect::<String>();
+        writeln!(f, "{}, case {}: {}", self.question, self.turn, short(&self.case))?;
+        let [one, other] = &self.answers;
+        writeln!(f, "{} answers {}", one.0, short(&one.1))?;
+        write!(f, "{} answers {}", other.0, short(&other.1))
+    }
+}
+
+/// Asks every desk the same cases, one question of them; `number` is the number that an answer hands back.
+fn ask<C: fmt::Debug, A: fmt::Debug + PartialEq>(
+    question: &'static str,
+    desks: &[&dyn Desk],
+    cases: impl Iterator<Item = C>,
+    answer: impl Fn(&dyn Desk, &C) -> A,
+    number: impl Fn(&A) -> usize,
+) -> Result<Line, Box<Difference>> {
+    let times = vec![Duration::default(); desks.len()];
+    let mut line = Line { question, cases: 0, numbers: BTreeMap::new(), times };
+    for case in cases {
+        let mut answers = Vec::with_capacity(desks.len());
+        for (desk, time) in desks.iter().zip(&mut line.times) {
+            let begin = Instant::now();
+            answers.push(answer(*desk, &case));
+            *time += begin.elapsed();
+        }
+        if let Some(other) = (1..answers.len()).find(|&other| answers[other] != answers[0]) {
+            let told = |at: usize| (desks[at].name(), format!("{:?}", answers[at]));
+            let case = format!("{:?}", case);
+            return Err(Box::new(Difference { question, turn: line.cases, case, answers: [told(0), told(other)] }));
+        }
+        line.cases += 1;
+        *line.numbers.entry(number(&answers[0])).or_insert(0) += 1;
+    }
+    Ok(line)
+}
+
+/// The first `count` cases of a stream of their own.
+fn cases<C>(amounts: &Amounts, question: u64, count: usize, next: fn(&mut Cases) -> C) -> impl Iterator<Item = C> {
+    let mut cases = Cases::new(amounts.seed.wrapping_mul(1_000).wrapping_add(question));
+    (0..count).map(move |_| next(&mut cases))
+}
+
+/// All questions, of every desk; with one desk alone it only counts and times.
+pub fn compare(desks: &[&dyn Desk], amounts: &Amounts) -> Result<Vec<Line>, Box<Difference>> {
+    let numbers_of_bits = (0..=300).chain(HUGE);
+    let codes = || cases(amounts, 1, amounts.codes, Cases::code);
+    let words = || cases(amounts, 2, amounts.words, Cases::word);
+    let lists = cases(amounts, 3, amounts.lists, Cases::list);
+    let cards = cases(amounts, 4, amounts.cards, Cases::card);
+    let images = cases(amounts, 5, amounts.images, Cases::image);
+    let inputs = cases(amounts, 6, amounts.inputs, Cases::program_input);
+    Ok(vec![
+        ask("check bits", desks, numbers_of_bits, |d, &k| d.wanted(k), |a| a.number)?,
+        ask("judge", desks, codes(), |d, c| d.judge(c), |a| a.number)?,
+        ask("row balance", desks, codes(), |d, c| d.row_balance(c), |a| a.number)?,
+        ask("write", desks, words(), |d, w| d.write(&w.code, w.data), |a| a.number)?,
+        ask("read", desks, words(), |d, w| d.read(&w.code, w.data, w.check), |a| a.number)?,
+        ask("explain", desks, lists, explained, |a| a.0.number)?,
+        ask("card check", desks, cards, |d, c| d.card_check(&c.code, c.b), |a| a.number)?,
+        ask("pass", desks, images, passed, |a| a.0.number)?,
+        ask("mend", desks, inputs, |d, i| d.mend(i), |text| if text == "refused 12\n" { 12 } else { 0 })?,
+    ])
+}
+
+/// The answer and every byte of the list.
+fn explained(desk: &dyn Desk, case: &ListCase) -> (Explained, Vec<u8>) {
+    let ListCase { word, limit, list } = case;
+    let mut list = list.clone();
+    (desk.explain(&word.code, word.data, word.check, *limit, &mut list), list)
+}
+
+/// The answer and every byte of the image and of the journal.
+fn passed(desk: &dyn Desk, case: &ImageCase) -> (Passed, Vec<u8>, Vec<u8>) {
+    let ImageCase { code, mut image, start, end, mut journal } = case.clone();
+    (desk.pass(&code, &mut image, start, end, &mut journal), image, journal)
+}

@@ -1,0 +1,64 @@
+//! A desk is whatever answers all questions: the second program here, the linked desk in a comparison.
+
+use crate::answers::{Balanced, CardsChecked, Explained, Judged, Passed, Reading, Wanted, Written};
+use crate::code::Code;
+
+/// Every question of document 01. No method has a body here: a desk must not fall back on another's answer.
+pub trait Desk {
+    fn name(&self) -> &'static str;
+    fn wanted(&self, k: usize) -> Wanted;
+    fn judge(&self, code: &Code) -> Judged;
+    fn row_balance(&self, code: &Code) -> Balanced;
+    fn write(&self, code: &Code, data: u64) -> Written;
+    fn read(&self, code: &Code, data: u64, check: u16) -> Reading;
+    fn explain(&self, code: &Code, data: u64, check: u16, limit: usize, list: &mut [u8]) -> Explained;
+    fn card_check(&self, code: &Code, b: usize) -> CardsChecked;
+    fn pass(&self, code: &Code, image: &mut [u8], start: usize, end: usize, journal: &mut [u8]) -> Passed;
+    fn mend(&self, input: &[u8]) -> String;
+}
+
+/// The second program.
+#[derive(Clone, Copy, Debug)]
+pub struct Second;
+
+impl Desk for Second {
+    fn name(&self) -> &'static str {
+        "second"
+    }
+
+    fn wanted(&self, k: usize) -> Wanted {
+        crate::wanted(k)
+    }
+
+    fn judge(&self, code: &Code) -> Judged {
+        crate::judge(code)
+    }
+
+    fn row_balance(&self, code: &Code) -> Balanced {
+        crate::row_balance(code)
+    }
+
+    fn write(&self, code: &Code, data: u64) -> Written {
+        crate::write(code, data)
+    }
+
+    fn read(&self, code: &Code, data: u64, check: u16) -> Reading {
+        crate::read(code, data, check)
+    }
+
+    fn explain(&self, code: &Code, data: u64, check: u16, limit: usize, list: &mut [u8]) -> Explained {
+        crate::explain(code, data, check, limit, list)
+    }
+
+    fn card_check(&self, code: &Code, b: usize) -> CardsChecked {
+        crate::card_check(code, b)
+    }
+
+    fn pass(&self, code: &Code, image: &mut [u8], start: usize, end: usize, journal: &mut [u8]) -> Passed {
+        crate::pass(code, image, start, end, journal)
+    }
+
+    fn mend(&self, input: &[u8]) -> String {
+        crate::mend(input)
+    }
+}

@@ -1,0 +1,31 @@
+//! The independent second program: answers every question of document 01 from the document alone.
+//!
+//! It goes by brute force over words of switches. A word is clean when writing its data gives its check bits; reading,
+//! explanations and cards flip places and ask that again. No syndrome is formed, and nothing is shared with the desk.
+//!
+//! The questions are [`wanted`], [`judge`], [`row_balance`], [`write`], [`read`], [`explain`], [`card_check`], [`pass`]
+//! and the program [`mend`]. [`Desk`] gathers them, [`Cases`] makes cases from a seed, [`compare`] asks several desks.
+
+mod answers;
+mod cards;
+pub mod cases;
+mod code;
+mod compare;
+mod desk;
+mod explain;
+mod pass;
+mod program;
+mod random;
+mod word;
+
+pub use answers::{Balanced, CardsChecked, Explained, Judged, Passed, Reading, Refusal, Wanted, Written};
+pub use cards::card_check;
+pub use cases::Cases;
+pub use code::{judge, row_balance, wanted, Code};
+pub use compare::{compare, Amounts, Difference, Line};
+pub use desk::{Desk, Second};
+pub use explain::explain;
+pub use pass::{counted, pass};
+pub use program::{mend, run, sample_code};
+pub use random::Random;
+pub use word::{read, write};

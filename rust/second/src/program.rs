@@ -1,0 +1,40 @@
+//! The program: an image in, the entries and the tally out as text.
+//!
+//! It passes over the whole image at once, so that a program that goes run by run is compared with something else.
+
+use crate::code::Code;
+use crate::pass::{pass, ENTRY, IMAGE, RECORD};
+use std::io::{self, Read, Write};
+
+/// Source document 002, figure 2.
+pub fn sample_code() -> Code {
+    Code::of(&[28, 26, 25, 22, 21, 19, 14, 13], 5)
+}
+
+/// What the program prints for this input.
+pub fn mend(input: &[u8]) -> String {
+    let mut image = input.to_vec();
+    let mut journal = vec![0; IMAGE / RECORD * ENTRY];
+    let records = image.len() / RECORD;
+    let passed = pass(&sample_code(), &mut image, 0, records, &mut journal);
+    if passed.number != 0 {
+        return format!("refused {}\n", passed.number);
+    }
+    let noted: usize = passed.tally[1..].iter().sum();
+    let mut text = String::new();
+    for entry in journal.chunks(ENTRY).take(noted) {
+        let record = usize::from(entry[0]) + 256 * usize::from(entry[1]);
+        text += &format!("{} {} {}\n", record, entry[2], entry[3]);
+    }
+    let names = ["clean", "data", "check", "even", "odd", "stray"];
+    let counts: Vec<String> =
+        names.iter().zip(passed.tally).map(|(name, count)| format!("{} {}", name, count)).collect();
+    text + &counts.join(" ") + "\n"
+}
+
+/// The program itself, between two streams.
+pub fn run(mut input: impl Read, mut output: impl Write) -> io::Result<()> {
+    let mut image = Vec::new();
+    input.read_to_end(&mut image)?;
+    output.write_all(mend(&image).as_bytes())
+}

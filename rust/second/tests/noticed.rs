@@ -1,0 +1,230 @@
+//! A comparison is worth what it notices: desks with one fault each, among them every "easy way to go wrong".
+
+use second::*;
+
+#[derive(Clone, Copy, PartialEq, Debug)]
+enum Fault {
+    // Document 01, "Easy ways to go wrong", 1 to 5.
+    EvenIsMended,
+    OddIsMended,
+    ChecksAreNotCompared,
+    CheckBitsStayUnmended,
+    PairsComeTwice,
+    // Codes.
+    OneCheckBitMore,
+    BalanceOfDataColumns,
+    BalancePastTheRows,
+    LeftoversAreJudged,
+    NarrowNumbers,
+    PlaceIsNotTold,
+    SmallestNumberFirst,
+    // Words and lists.
+    StrayCheckBitsPass,
+    RefusedWordComesBack,
+    CleanHasPlaceZero,
+    LimitBeforeStray,
+    HalfAnEntryIsRoom,
+    RefusedListIsWritten,
+    ListTailIsCleared,
+    RefusedListHasLength,
+    // Cards.
+    LargestMask,
+    ShortCardIsSkipped,
+    // Images.
+    RunBeforeLength,
+    JournalBeforeRun,
+    LastRecordIsBeyond,
+    WholeImageIsMended,
+    NumbersFromTheRun,
+    RefusedPassIsNoted,
+    JournalTailIsCleared,
+    NothingIsMended,
+    StrayIsNotCounted,
+    RefusedPassHasTally,
+    // The program.
+    NoLastLineEnd,
+    RefusedPrintsTally,
+}
+
+use Fault::*;
+
+struct Sloppy(Fault);
+
+impl Sloppy {
+    fn has(&self, fault: Fault) -> bool {
+        self.0 == fault
+    }
+
+    /// The code as this desk takes it.
+    fn taken(&self, code: &Code) -> Code {
+        match self.0 {
+            LeftoversAreJudged if (1..=64).contains(&code.k) && code.columns[code.k..].iter().any(|&c| c != 0) => {
+                Code { k: 64, ..*code }
+            }
+            NarrowNumbers => Code { k: code.k as u32 as usize, r: code.r as u32 as usize, ..*code },
+            _ => *code,
+        }
+    }
+}
+
+impl Desk for Sloppy {
+    fn name(&self) -> &'static str {
+        "sloppy"
+    }
+
+    fn wanted(&self, k: usize) -> Wanted {
+        let mut answer = wanted(k);
+        answer.check_bits += usize::from(self.has(OneCheckBitMore) && k == 57);
+        answer
+    }
+
+    fn judge(&self, code: &Code) -> Judged {
+        let mut answer = judge(&self.taken(code));
+        if self.has(ChecksAreNotCompared) && answer.number == 5 {
+            answer = Judged::default();
+        }
+        if self.has(PlaceIsNotTold) {
+            answer.told = 0;
+        }
+        if self.has(SmallestNumberFirst) && (4..=6).contains(&answer.number) {
+            let wide = code.columns[..code.k].iter().position(|&column| column >> (code.r - 1) > 1);
+            answer = wide.map_or(answer, |told| Judged { number: 3, told });
+        }
+        answer
+    }
+
+    fn row_balance(&self, code: &Code) -> Balanced {
+        let mut answer = row_balance(code);
+        if answer.number == 0 && self.has(BalanceOfDataColumns) {
+            answer.rows.iter_mut().take(code.r).for_each(|balance| *balance -= code.r as i32);
+        }
+        if answer.number == 0 && self.has(BalancePastTheRows) {
+            answer.rows[code.r..].fill(-1);
+        }
+        answer
+    }
+
+    fn write(&self, code: &Code, data: u64) -> Written {
+        write(code, data)
+    }
+
+    fn read(&self, code: &Code, data: u64, check: u16) -> Reading {
+        let mut answer = read(code, data, check);
+        match (self.0, answer.number, answer.verdict) {
+            (EvenIsMended, 0, 3) => answer = Reading { verdict: 1, place: 0, data: data ^ 1, ..answer },
+            (OddIsMended, 0, 4) => answer = Reading { verdict: 1, place: 0, data: data ^ 1, ..answer },
+            (CheckBitsStayUnmended, 0, 2) => answer.check = check,
+            (CleanHasPlaceZero, 0, 0) => answer.place = 0,
+            (RefusedWordComesBack, 7, _) => answer.data = data,
+            (StrayCheckBitsPass, 7, _) => answer = read(code, data, check & ((1 << code.r.min(15)) - 1)),
+            _ => {}
+        }
+        answer
+    }
+
+    fn explain(&self, code: &Code, data: u64, check: u16, limit: usize, list: &mut [u8]) -> Explained {
+        let mut answer = explain(code, data, check, limit, list);
+        match self.0 {
+            LimitBeforeStray if answer.number == 7 && limit > 2 => answer.number = 11,
+            HalfAnEntryIsRoom if answer.number == 10 && list.len() + 1 == 2 * answer.told => {
+                answer = Explained { length: answer.told, ..Explained::default() }
+            }
+            RefusedListIsWritten if answer.number == 10 => list.fill(0),
+            RefusedListHasLength if answer.number == 10 => answer.length = answer.told,
+            ListTailIsCleared if answer.number == 0 => list[2 * answer.length..].fill(0),
+            PairsComeTwice if answer.number == 0 && answer.length > 0 && list.len() >= 4 && list[1] != 255 => {
+                list.copy_within(0..2, 2);
+                list[2..4].reverse();
+            }
+            _ => {}
+        }
+        answer
+    }
+
+    fn card_check(&self, code: &Code, b: usize) -> CardsChecked {
+        let answer = card_check(code, b);
+        match self.0 {
+            LargestMask if answer.number == 9 => CardsChecked { mask: (1 << b) - 1, ..answer },
+            ShortCardIsSkipped if answer.number == 9 && (answer.card + 1) * b > code.k + code.r => Default::default(),
+            _ => answer,
+        }
+    }
+
+    fn pass(&self, code: &Code, image: &mut [u8], start: usize, end: usize, journal: &mut [u8]) -> Passed {
+        let (before, records) = (image.to_vec(), image.len() / 10);
+        let bad_run = start > end || end > records;
+        let mut answer = pass(code, image, start, end, journal);
+        let noted: usize = answer.tally[1..].iter().sum();
+        match (self.0, answer.number) {
+            (RunBeforeLength, 12) if bad_run => answer.number = 14,
+            (JournalBeforeRun, 14) if start < records && journal.len() < 24 => answer.number = 13,
+            (LastRecordIsBeyond, 0) if end == records => answer = Passed { number: 14, ..Passed::default() },
+            (WholeImageIsMended, 0) => drop(pass(code, image, 0, records, &mut vec![0; 24 * records])),
+            (NumbersFromTheRun, 0) if noted > 0 => journal[0] = journal[0].wrapping_sub(start as u8),
+            (RefusedPassIsNoted, 13) => journal.fill(0),
+            (JournalTailIsCleared, 0) => journal[24 * noted..].fill(0),
+            (NothingIsMended, 0) => image.copy_from_slice(&before),
+            (StrayIsNotCounted, 0) => answer.tally[5] = 0,
+            (RefusedPassHasTally, 13) => answer.tally[3] = answer.told,
+            _ => {}
+        }
+        answer
+    }
+
+    fn mend(&self, input: &[u8]) -> String {
+        let text = mend(input);
+        match self.0 {
+            NoLastLineEnd => text.trim_end().to_string(),
+            RefusedPrintsTally if text.starts_with("refused") => text + &mend(&[]),
+            _ => text,
+        }
+    }
+}
+
+const NO_CASES: Amounts = Amounts { seed: 1, codes: 0, words: 0, lists: 0, cards: 0, images: 0, inputs: 0 };
+
+/// Every fault is noticed, at this question, with no more cases than these.
+fn noticed(faults: &[Fault], question: &str, amounts: Amounts) {
+    for &fault in faults {
+        match compare(&[&Second, &Sloppy(fault)], &amounts) {
+            Ok(_) => panic!("{:?} is not noticed", fault),
+            Err(difference) => {
+                assert_eq!(difference.question, question, "{:?}", fault);
+                assert!(difference.to_string().contains("sloppy answers"));
+            }
+        }
+    }
+}
+
+#[test]
+fn every_fault_of_a_code_is_noticed() {
+    let amounts = Amounts { codes: 2_000, ..NO_CASES };
+    noticed(&[OneCheckBitMore], "check bits", NO_CASES);
+    noticed(&[ChecksAreNotCompared, LeftoversAreJudged, NarrowNumbers], "judge", amounts);
+    noticed(&[PlaceIsNotTold, SmallestNumberFirst], "judge", amounts);
+    noticed(&[BalanceOfDataColumns, BalancePastTheRows], "row balance", amounts);
+}
+
+#[test]
+fn every_fault_of_a_word_is_noticed() {
+    let amounts = Amounts { words: 10_000, ..NO_CASES };
+    noticed(&[EvenIsMended, OddIsMended, CheckBitsStayUnmended], "read", amounts);
+    noticed(&[CleanHasPlaceZero, StrayCheckBitsPass, RefusedWordComesBack], "read", amounts);
+}
+
+#[test]
+fn every_fault_of_a_list_or_a_card_is_noticed() {
+    let amounts = Amounts { lists: 2_000, cards: 500, ..NO_CASES };
+    noticed(&[PairsComeTwice, LimitBeforeStray, HalfAnEntryIsRoom], "explain", amounts);
+    noticed(&[RefusedListIsWritten, RefusedListHasLength, ListTailIsCleared], "explain", amounts);
+    noticed(&[LargestMask, ShortCardIsSkipped], "card check", amounts);
+}
+
+#[test]
+fn every_fault_of_a_pass_is_noticed() {
+    let amounts = Amounts { images: 500, inputs: 40, ..NO_CASES };
+    noticed(&[RunBeforeLength, JournalBeforeRun, LastRecordIsBeyond], "pass", amounts);
+    noticed(&[RefusedPassIsNoted, RefusedPassHasTally, JournalTailIsCleared], "pass", amounts);
+    noticed(&[WholeImageIsMended, NumbersFromTheRun, NothingIsMended, StrayIsNotCounted], "pass", amounts);
+    noticed(&[NoLastLineEnd, RefusedPrintsTally], "mend", amounts);
+}

@@ -1,0 +1,119 @@
+//! "Images, journal and tally": runs, tails, what stays, and the tally itself.
+
+mod common;
+
+use common::*;
+use second::*;
+
+/// One record of each verdict 0 to 5 under the sample code, and what a pass leaves of it.
+fn one_of_each() -> (Vec<Vec<u8>>, Vec<Vec<u8>>) {
+    let read = [(0xA5, 27), (0xA4, 27), (0xA5, 26), (0xA6, 27), (0xA6, 26), (0xA5, 0x3B)];
+    let left = [(0xA5, 27), (0xA5, 27), (0xA5, 27), (0xA6, 27), (0xA6, 26), (0xA5, 0x3B)];
+    let records = |words: [(u64, u16); 6]| words.iter().map(|&(data, check)| record(data, check)).collect();
+    (records(read), records(left))
+}
+
+#[test]
+fn every_run_of_an_image() {
+    let (read, left) = one_of_each();
+    let places = [NONE, 0, 8, NONE, NONE, NONE];
+    for start in 0..=6 {
+        for end in start..=6 {
+            for tail in [0, 1, 23, 24, 50] {
+                let noted: Vec<u8> = (start.max(1)..end)
+                    .flat_map(|at| [&[at as u8, 0, at as u8, places[at] as u8], &read[at][..], &left[at]].concat())
+                    .collect();
+                let (mut image, mut journal) = (read.concat(), vec![0xEE; noted.len() + tail]);
+                let mut tally = [0; 6];
+                tally[start..end].fill(1);
+                assert_eq!(pass(&sample_code(), &mut image, start, end, &mut journal), pass_done(tally));
+                assert_eq!(image, [&read[..start], &left[start..end], &read[end..]].concat().concat());
+                assert_eq!(journal, [noted, vec![0xEE; tail]].concat());
+            }
+        }
+    }
+}
+
+#[test]
+fn equal_ends_are_done() {
+    let (read, _) = one_of_each();
+    for at in 0..=6 {
+        let mut image = read.concat();
+        assert_eq!(pass(&sample_code(), &mut image, at, at, &mut []), pass_done([0; 6]));
+        assert_eq!(image, read.concat());
+    }
+    assert_eq!(pass(&sample_code(), &mut [], 0, 0, &mut [0; 30]), pass_done([0; 6]));
+}
+
+#[test]
+fn record_numbers_count_from_the_images_start() {
+    let mut image = vec![0; 65_530];
+    image[65_520..].copy_from_slice(&record(0xA4, 27));
+    let mut journal = [0xEE; 25];
+    assert_eq!(pass(&sample_code(), &mut image, 6_552, 6_553, &mut journal), pass_done([0, 1, 0, 0, 0, 0]));
+    assert_eq!(journal[..4], hex("98 19 01 00"));
+    assert_eq!(journal[14..], hex("A5 00 00 00 00 00 00 00 1B 00 EE"));
+    assert_eq!(image[65_520..], record(0xA5, 27));
+}
+
+#[test]
+fn a_full_image_of_damaged_records() {
+    let mut image = record(0xA4, 27).repeat(6_553);
+    let mut journal = vec![0xEE; 24 * 6_553 + 5];
+    let short = 24 * 6_553 - 1;
+    assert_eq!(pass(&sample_code(), &mut image, 0, 6_553, &mut journal[..short]), pass_refused(13, 6_553));
+    assert!(image == record(0xA4, 27).repeat(6_553) && journal.iter().all(|&byte| byte == 0xEE));
+    assert_eq!(pass(&sample_code(), &mut image, 0, 6_553, &mut journal), pass_done([0, 6_553, 0, 0, 0, 0]));
+    assert!(image == record(0xA5, 27).repeat(6_553) && journal[24 * 6_553..] == [0xEE; 5]);
+}
+
+#[test]
+fn a_second_pass_finds_nothing_to_mend() {
+    let (read, left) = one_of_each();
+    let mut image = read.concat();
+    let mut journal = [0xEE; 120];
+    pass(&sample_code(), &mut image, 0, 6, &mut journal);
+    assert_eq!(pass(&sample_code(), &mut image, 0, 6, &mut journal), pass_done([3, 0, 0, 1, 1, 1]));
+    assert_eq!(image, left.concat());
+}
+
+#[test]
+fn stray_words_stay() {
+    for (data, check) in [(0x1A4, 27), (0xA4, 0x801B), (u64::MAX, 0xFFFF), (1 << 63, 0)] {
+        let mut image = record(data, check);
+        let mut journal = [0xEE; 24];
+        assert_eq!(pass(&sample_code(), &mut image, 0, 1, &mut journal), pass_done([0, 0, 0, 0, 0, 1]));
+        assert_eq!(image, record(data, check));
+        assert_eq!(journal[..], [&[0, 0, 5, 255], &image[..], &image].concat());
+    }
+}
+
+#[test]
+fn the_tally_counts_and_stays_when_full() {
+    assert_eq!(counted([0; 6], 0), [1, 0, 0, 0, 0, 0]);
+    assert_eq!(counted([1, 2, 3, 4, 5, 6], 5), [1, 2, 3, 4, 5, 7]);
+    assert_eq!(counted([0, 65_534, 0, 0, 0, 0], 1), [0, 65_535, 0, 0, 0, 0]);
+    assert_eq!(counted([0, 65_535, 0, 0, 0, 0], 1), [0, 65_535, 0, 0, 0, 0]);
+    for verdict in [6, 7, 255, usize::MAX] {
+        assert_eq!(counted([1, 2, 3, 4, 5, 6], verdict), [1, 2, 3, 4, 5, 6]);
+    }
+}
+
+#[test]
+fn a_pass_tallies_as_one_word_after_the_other() {
+    let mut cases = Cases::new(7);
+    for _ in 0..300 {
+        let case = cases.image();
+        let mut image = case.image.clone();
+        let answer = pass(&case.code, &mut image, case.start, case.end, &mut vec![0; 24 * 6_553]);
+        let mut tally = [0; 6];
+        if answer.number == 0 {
+            for bytes in case.image.chunks(10).take(case.end).skip(case.start) {
+                let data = u64::from_le_bytes(bytes[..8].try_into().unwrap());
+                let reading = read(&case.code, data, u16::from_le_bytes(bytes[8..].try_into().unwrap()));
+                tally = counted(tally, if reading.number == 7 { 5 } else { reading.verdict });
+            }
+        }
+        assert_eq!(answer.tally, tally);
+    }
+}

@@ -1,0 +1,185 @@
+//! "When the desk says no": every line of the table, exactly when, and the order.
+
+mod common;
+
+use common::*;
+use second::*;
+
+/// Every question that is given the code is refused with this number and place, and writes nothing.
+fn refused_everywhere(code: Code, number: usize, told: usize) {
+    assert_eq!(judge(&code), judged(number, told));
+    assert_eq!(row_balance(&code), Balanced { number, told, rows: [0; 16] });
+    for data in [0, 1, u64::MAX] {
+        assert_eq!(write(&code, data), Written { number, told, check: 0 });
+        assert_eq!(read(&code, data, 0xFFFF), Reading { number, told, verdict: 0, place: 0, data: 0, check: 0 });
+        for limit in [0, 2, 3, usize::MAX] {
+            let mut list = [0xEE; 80];
+            assert_eq!(explain(&code, data, 0xFFFF, limit, &mut list), list_refused(number, told));
+            assert_eq!(list, [0xEE; 80]);
+        }
+    }
+    for b in [0, 2, 8, 9, usize::MAX] {
+        assert_eq!(card_check(&code, b), cards_refused(number, told));
+    }
+    for (bytes, start, end) in [(20, 0, 2), (20, 2, 1), (20, 0, 3), (19, 0, 1), (65_540, 0, 1)] {
+        let (mut image, mut journal) = (vec![0xA6; bytes], [0xEE; 47]);
+        assert_eq!(pass(&code, &mut image, start, end, &mut journal), pass_refused(number, told));
+        assert!(image == vec![0xA6; bytes] && journal == [0xEE; 47]);
+    }
+}
+
+#[test]
+fn number_1_k_is_0_or_over_64() {
+    for k in [0, 65, 66, 255, 256, 264, 65_544, (1 << 32) + 8, usize::MAX] {
+        refused_everywhere(Code { k, ..sample_code() }, 1, 0);
+        assert_eq!(wanted(k), Wanted { number: 1, check_bits: 0 });
+    }
+}
+
+#[test]
+fn number_2_r_below_3_or_over_16() {
+    for r in [0, 1, 2, 17, 18, 32, 64, 255, 261, 65_541, (1 << 32) + 5, usize::MAX] {
+        refused_everywhere(Code { r, ..sample_code() }, 2, 0);
+    }
+}
+
+#[test]
+fn numbers_3_to_6_a_column() {
+    for place in 0..8 {
+        for wide in [32, 33, 35, 64, 0x8000, 0xFFFF] {
+            refused_everywhere(sample_with(place, wide), 3, place);
+        }
+        for even in [0, 3, 6, 12, 15, 24, 30] {
+            refused_everywhere(sample_with(place, even), 4, place);
+        }
+        for single in [1, 2, 4, 8, 16] {
+            refused_everywhere(sample_with(place, single), 5, place);
+        }
+        for earlier in 0..place {
+            refused_everywhere(sample_with(place, sample_code().columns[earlier]), 6, place);
+        }
+    }
+    // With 16 rows no column is too wide.
+    assert_eq!(judge(&Code::of(&[0x8000], 16)), judged(5, 0));
+    assert_eq!(judge(&Code::of(&[0xFFFF], 16)), judged(4, 0));
+}
+
+#[test]
+fn the_order_within_a_code() {
+    refused_everywhere(Code { k: 0, r: 2, ..sample_code() }, 1, 0);
+    refused_everywhere(Code { k: 65, r: 17, ..sample_code() }, 1, 0);
+    refused_everywhere(Code { r: 2, ..sample_with(0, 0) }, 2, 0);
+    // The lowest bad column first, whatever it has; then 3, 4, 5, 6.
+    refused_everywhere(Code::of(&[28, 28, 12, 32], 5), 6, 1);
+    refused_everywhere(Code::of(&[28, 16, 12, 32], 5), 5, 1);
+    refused_everywhere(Code::of(&[28, 12, 32], 5), 4, 1);
+    refused_everywhere(Code::of(&[28, 33, 33], 5), 3, 1);
+    refused_everywhere(Code::of(&[28, 32, 16], 5), 3, 1);
+    refused_everywhere(Code::of(&[16, 16], 5), 5, 0);
+    refused_everywhere(Code::of(&[3, 3], 5), 4, 0);
+}
+
+#[test]
+fn places_past_k_are_ignored() {
+    for left in [0, 1, 3, 28, 32, 0xFFFF] {
+        let mut code = sample_code();
+        code.columns[8..].fill(left);
+        assert_eq!(judge(&code), judged(0, 0));
+        assert_eq!(row_balance(&code), row_balance(&sample_code()));
+        assert_eq!(read(&code, 0xA4, 27), reading(1, 0, 0xA5, 27));
+        assert_eq!(card_check(&code, 3), weak(1, 7));
+    }
+}
+
+#[test]
+fn number_7_stray_bits_of_a_single_word() {
+    let code = sample_code();
+    for data in [0x100, 0x1A5, 1 << 63, u64::MAX] {
+        assert_eq!(write(&code, data), Written { number: 7, told: 0, check: 0 });
+        assert_eq!(read(&code, data, 27), Reading { number: 7, ..Reading::default() });
+        assert_eq!(explain(&code, data, 27, 2, &mut [0; 80]), list_refused(7, 0));
+    }
+    for check in [0x20, 0x3B, 0x8000, 0xFFFF] {
+        assert_eq!(read(&code, 0xA5, check), Reading { number: 7, ..Reading::default() });
+        assert_eq!(explain(&code, 0xA5, check, 2, &mut [0; 80]), list_refused(7, 0));
+    }
+    for data in 0..=0xFF {
+        assert_eq!(write(&code, data).number, 0);
+        assert!((0..32).all(|check| read(&code, data, check).number == 0));
+    }
+}
+
+#[test]
+fn number_8_and_9_cards() {
+    for b in [0, 1, 9, 10, 255, 258, 65_538, (1 << 32) + 2, usize::MAX] {
+        assert_eq!(card_check(&sample_code(), b), cards_refused(8, 0));
+    }
+    for b in 2..=8 {
+        assert!([0, 9].contains(&card_check(&sample_code(), b).number));
+    }
+}
+
+#[test]
+fn number_10_the_list_is_longer_than_its_room() {
+    for bytes in 0..=14 {
+        let mut list = vec![0xEE; bytes];
+        let answer = explain(&sample_code(), 0xA6, 27, 2, &mut list);
+        if bytes < 10 {
+            assert_eq!((answer, list), (list_refused(10, 5), vec![0xEE; bytes]));
+        } else {
+            assert_eq!(answer, list_done(5));
+            assert!(list[10..].iter().all(|&byte| byte == 0xEE));
+        }
+    }
+}
+
+#[test]
+fn number_11_the_flip_limit_after_7_and_before_10() {
+    for limit in [3, 4, 255, 256, 65_536, 1 << 32, usize::MAX] {
+        assert_eq!(explain(&sample_code(), 0xA6, 27, limit, &mut []), list_refused(11, 0));
+        assert_eq!(explain(&sample_code(), 0x1A6, 27, limit, &mut []), list_refused(7, 0));
+    }
+}
+
+/// A pass of the sample code over zero bytes with `bad` records of A6 with 27 in front; nothing changes.
+fn refused_pass(bytes: usize, bad: usize, (start, end): (usize, usize), journal: usize) -> Passed {
+    let mut image = vec![0; bytes];
+    for at in 0..bad {
+        image[10 * at..10 * at + 10].copy_from_slice(&record(0xA6, 27));
+    }
+    let before = image.clone();
+    let mut noted = vec![0xEE; journal];
+    let answer = pass(&sample_code(), &mut image, start, end, &mut noted);
+    assert!(image == before && noted == vec![0xEE; journal]);
+    answer
+}
+
+#[test]
+fn number_12_the_images_length() {
+    for bytes in [1, 9, 11, 19, 65_529, 65_531, 65_535, 65_536, 65_539, 65_540, 131_060] {
+        assert_eq!(refused_pass(bytes, 0, (0, 0), 0), pass_refused(12, 0), "{} bytes", bytes);
+        assert_eq!(refused_pass(bytes, 0, (1, 0), 0), pass_refused(12, 0), "12 before 14");
+        assert_eq!(refused_pass(bytes, 0, (0, usize::MAX), 0), pass_refused(12, 0), "12 before 14");
+    }
+    assert_eq!(refused_pass(25, 2, (0, 2), 0), pass_refused(12, 0), "12 before 13");
+}
+
+#[test]
+fn number_14_the_run() {
+    let beyond = [(0, 4), (3, 4), (4, 4), (0, usize::MAX), (usize::MAX, usize::MAX), (0, 1 << 61)];
+    let backwards = [(1, 0), (3, 2), (usize::MAX, 3), (usize::MAX, 0)];
+    for run in beyond.into_iter().chain(backwards) {
+        assert_eq!(refused_pass(30, 3, run, 0), pass_refused(14, 0), "14 before 13");
+        assert_eq!(refused_pass(30, 3, run, 72), pass_refused(14, 0));
+    }
+    assert_eq!(refused_pass(0, 0, (0, 1), 0), pass_refused(14, 0));
+}
+
+#[test]
+fn number_13_the_journals_room() {
+    for journal in 0..72 {
+        assert_eq!(refused_pass(50, 3, (0, 5), journal), pass_refused(13, 3));
+    }
+    assert_eq!(refused_pass(50, 3, (2, 5), 23), pass_refused(13, 1));
+    assert_eq!(refused_pass(50, 3, (3, 5), 0), pass_done([2, 0, 0, 0, 0, 0]));
+}

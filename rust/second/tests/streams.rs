@@ -1,0 +1,177 @@
+//! The streams of cases: fixed by their seed, and wide enough that every line of the document is asked.
+
+use second::cases::HUGE;
+use second::*;
+use std::collections::{BTreeSet, HashSet};
+
+const SMALL: Amounts =
+    Amounts { seed: 1, codes: 4_000, words: 10_000, lists: 2_000, cards: 1_000, images: 1_000, inputs: 40 };
+
+#[test]
+fn the_same_seed_gives_the_same_cases() {
+    let all = |seed: u64| {
+        let mut cases = Cases::new(seed);
+        let some = |_| (cases.code(), cases.word(), cases.list(), cases.card(), cases.image(), cases.program_input());
+        format!("{:?}", (0..50).map(some).collect::<Vec<_>>())
+    };
+    assert!(all(1) == all(1));
+    assert!(all(1) != all(2));
+    assert_eq!(Random::new(0).draw(), 0xe220_a839_7b1d_cdaf);
+}
+
+#[test]
+fn every_number_of_every_question_is_met() {
+    let met = |number: &[usize]| number.iter().copied().collect::<BTreeSet<usize>>();
+    let wanted = [
+        ("check bits", met(&[0, 1])),
+        ("judge", met(&[0, 1, 2, 3, 4, 5, 6])),
+        ("row balance", met(&[0, 1, 2, 3, 4, 5, 6])),
+        ("write", met(&[0, 1, 2, 3, 4, 5, 6, 7])),
+        ("read", met(&[0, 1, 2, 3, 4, 5, 6, 7])),
+        ("explain", met(&[0, 1, 2, 3, 4, 5, 6, 7, 10, 11])),
+        ("card check", met(&[0, 1, 2, 3, 4, 5, 6, 8, 9])),
+        ("pass", met(&[0, 1, 2, 3, 4, 5, 6, 12, 13, 14])),
+        ("mend", met(&[0, 12])),
+    ];
+    let lines = compare(&[&Second, &Second], &SMALL).expect("the second program agrees with itself");
+    assert_eq!(lines.len(), wanted.len());
+    for (line, (question, numbers)) in lines.iter().zip(wanted) {
+        assert_eq!(line.question, question);
+        assert_eq!(line.numbers.keys().copied().collect::<BTreeSet<_>>(), numbers, "{}", question);
+        assert_eq!(line.numbers.values().sum::<usize>(), line.cases);
+    }
+}
+
+#[test]
+fn sound_codes_have_every_shape_and_are_sound() {
+    let mut cases = Cases::new(3);
+    let mut shapes = HashSet::new();
+    for _ in 0..1_100 {
+        let code = cases.sound_code();
+        assert_eq!(judge(&code).number, 0);
+        shapes.insert((code.k, code.r));
+    }
+    let possible = |k: usize| (3..=16).filter(move |&r| r >= wanted(k).check_bits).map(move |r| (k, r));
+    assert_eq!(shapes, (1..=64).flat_map(possible).collect());
+    assert_eq!(shapes.len(), 675);
+}
+
+#[test]
+fn damaged_codes_have_every_damage() {
+    let mut cases = Cases::new(4);
+    let mut seen = HashSet::new();
+    let mut leftovers = 0;
+    for _ in 0..20_000 {
+        let code = cases.damaged_code();
+        let answer = judge(&code);
+        seen.insert((answer.number, answer.told));
+        leftovers += usize::from(answer.number == 0 && code.columns[code.k..].iter().any(|&column| column != 0));
+        seen.extend([(100, code.k), (200, code.r)]);
+    }
+    for number in 3..=6 {
+        let first = usize::from(number == 6);
+        let places = (first..64).filter(|&place| seen.contains(&(number, place))).count();
+        assert!(places > 50 && seen.contains(&(number, first)) && seen.contains(&(number, 63)), "{}", number);
+    }
+    assert!([0, 65].iter().chain(&HUGE).all(|&k| seen.contains(&(100, k))));
+    assert!([2, 17].iter().chain(&HUGE).all(|&r| seen.contains(&(200, r))));
+    assert!(leftovers > 100);
+}
+
+#[test]
+fn words_have_every_verdict_and_place() {
+    let mut cases = Cases::new(5);
+    let mut verdicts = [0; 5];
+    let mut places = HashSet::new();
+    for _ in 0..20_000 {
+        let word = cases.word();
+        let answer = read(&word.code, word.data, word.check);
+        if answer.number == 0 {
+            verdicts[answer.verdict] += 1;
+            places.insert(answer.place);
+        }
+    }
+    assert!(verdicts.iter().all(|&count| count > 500), "{:?}", verdicts);
+    assert!((0..80).chain([255]).all(|place| places.contains(&place)));
+}
+
+#[test]
+fn lists_are_empty_and_full_and_in_every_room() {
+    let mut cases = Cases::new(6);
+    let (mut lengths, mut rooms, mut limits) = (BTreeSet::new(), BTreeSet::new(), BTreeSet::new());
+    for _ in 0..20_000 {
+        let case = cases.list();
+        let mut list = case.list.clone();
+        let answer = explain(&case.word.code, case.word.data, case.word.check, case.limit, &mut list);
+        limits.insert(case.limit);
+        if answer.number == 0 {
+            assert!(list[2 * answer.length..] == case.list[2 * answer.length..]);
+            lengths.insert(answer.length);
+            rooms.insert((case.list.len() as isize - 2 * answer.length as isize).min(3));
+        } else {
+            assert!(list == case.list);
+            if answer.number == 10 {
+                rooms.insert((case.list.len() as isize - 2 * answer.told as isize).max(-3));
+            }
+        }
+    }
+    assert!((0..=32).all(|length| lengths.contains(&length)), "{:?}", lengths);
+    assert_eq!(lengths.iter().max(), Some(&40), "no list exceeds 40 entries, and one has them");
+    assert_eq!(rooms, (-3..=3).collect());
+    assert!((0..=4).chain(HUGE).all(|limit| limits.contains(&limit)));
+}
+
+#[test]
+fn cards_are_proof_and_weak_for_every_b() {
+    let mut cases = Cases::new(7);
+    let mut seen = HashSet::new();
+    for _ in 0..5_000 {
+        let case = cases.card();
+        let answer = card_check(&case.code, case.b);
+        seen.insert((case.b, answer.number));
+    }
+    assert!(seen.contains(&(2, 0)) && !seen.contains(&(2, 9)), "two different odd columns mix to no column");
+    for b in 3..=8 {
+        assert!(seen.contains(&(b, 0)) && seen.contains(&(b, 9)), "b {}", b);
+    }
+    assert!([0, 1, 9, 10].iter().chain(&HUGE).all(|&b| seen.contains(&(b, 8))));
+}
+
+#[test]
+fn images_have_every_verdict_run_and_journal() {
+    let mut cases = Cases::new(8);
+    let (mut tally, mut seen) = ([0; 6], HashSet::new());
+    for _ in 0..2_000 {
+        let case = cases.image();
+        let (mut image, mut journal) = (case.image.clone(), case.journal.clone());
+        let answer = pass(&case.code, &mut image, case.start, case.end, &mut journal);
+        let records = case.image.len() / 10;
+        let noted: usize = answer.tally[1..].iter().sum();
+        if answer.number == 0 {
+            tally.iter_mut().zip(answer.tally).for_each(|(all, count)| *all += count);
+            assert!(journal[24 * noted..] == case.journal[24 * noted..]);
+            let changed = (0..image.len()).filter(|&at| image[at] != case.image[at]);
+            assert!(changed.into_iter().all(|at| (case.start..case.end).contains(&(at / 10))));
+            seen.insert(("inner run", (case.start > 0 && case.end < records && noted > 0).into()));
+            seen.insert(("equal ends", (case.start == case.end).into()));
+            seen.insert(("over a byte", (case.end > 256 && noted > 0).into()));
+            seen.insert(("longest", (case.image.len() == 65_530).into()));
+            seen.insert(("room", (case.journal.len() - 24 * noted).min(25)));
+        } else {
+            assert!(image == case.image && journal == case.journal);
+            seen.insert(("backwards", (answer.number == 14 && case.start > case.end).into()));
+            seen.insert(("beyond by one", (answer.number == 14 && case.end == records + 1).into()));
+            seen.insert(("far beyond", (answer.number == 14 && case.end == usize::MAX).into()));
+            seen.insert(("odd length", (answer.number == 12 && case.image.len() % 10 != 0).into()));
+            seen.insert(("too long", (answer.number == 12 && case.image.len() == 65_540).into()));
+            seen.insert(("short by", if answer.number == 13 { 24 * answer.told - case.journal.len() } else { 0 }));
+        }
+    }
+    assert!(tally.iter().all(|&count| count > 1_000), "{:?}", tally);
+    let shapes = ["inner run", "equal ends", "over a byte", "longest", "backwards", "beyond by one", "far beyond"];
+    for shape in shapes.iter().chain(&["odd length", "too long", "short by"]) {
+        assert!(seen.contains(&(shape, 1)), "{}", shape);
+    }
+    assert!([0, 1, 23, 25].iter().all(|&over| seen.contains(&("room", over))));
+    assert!(seen.contains(&("short by", 24)));
+}
