@@ -4,8 +4,6 @@ pub mod Steps
 pub mod Laying
 pub mod Ready
 pub mod Bands
-pub mod Balancing
-pub mod Sum
 pub mod Counting
 pub mod Room
 pub mod Least

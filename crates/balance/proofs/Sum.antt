@@ -15,13 +15,13 @@ use lib.ListN.{length, take}
 use Rattle.parity.proofs.Ones.{ones-in}
 use Rattle.columns.specs.Bits.{bitAt}
 use Rattle.columns.specs.Mix.{column}
 use Rattle.code.specs.declared.Code.{Code}
 use Rattle.code.specs.declared.Judged.the-variants.{Accepted}
 use Rattle.code.specs.Judge.{judgeOf, accepted}
 use Rattle.code.specs.Rule.{matrixOf}
-use Rattle.code.specs.Balance.{sumOf, rowOnes, allOnes, balanceAt, balancesFrom, balancesOf, sumℤ}
+use Rattle.balance.specs.Balance.{sumOf, rowOnes, allOnes, balanceAt, balancesFrom, balancesOf, sumℤ}
 use Rattle.code.proofs.Rule.{matrix-below}
 use Rattle.code.proofs.Table.{passes, judge-rule}
 
 -- ---- sums over n numbers from j on
 

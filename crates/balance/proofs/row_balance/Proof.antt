@@ -1,15 +1,15 @@
--- `code::row_balance` meets its contract: a refused code gives zeros, an accepted one its 16 balances. Assumes nothing.
+-- `balance::row_balance` meets its contract: a refused code gives zeros, an accepted one its 16 balances. Assumes nothing.
 use mathlib.Core.Path.{_≡_, sym, _∙_, ap}
 use native.Mathlib.Omega.{arith}
 use borrow.Author.Needs.{needs}
 use lib.ListN.{length}
 use lib.Seq.{length-take-le}
-use Rattle.code.specs.Balance.{balancesFrom}
+use Rattle.balance.specs.Balance.{balancesFrom}
 use Rattle.code.proofs.Steps.{refused}
 use Rattle.code.proofs.Ready.{Ready, ready}
-use Rattle.code.proofs.Balancing.{balances-refused, balances-accepted}
-use Rattle.code.proofs.row_balance.Statement.{statement}
-use Rattle.code.proofs.row_balance.Tie as tie
+use Rattle.balance.proofs.Balancing.{balances-refused, balances-accepted}
+use Rattle.balance.proofs.row_balance.Statement.{statement}
+use Rattle.balance.proofs.row_balance.Tie as tie
 
 -- past the `let .. else`
 is-ready : (c : tie.After-enum-told) → Ready (c .before .before .before .args .code) (c .before .before .open-code .result .columns)
