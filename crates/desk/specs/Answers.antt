@@ -1,0 +1,48 @@
+-- What each exported function answers: document 01's numbers and values of the answer that its layer defines. Assumes nothing.
+use Prim.Native.Nat.{ℕ}
+use Rattle.code.specs.declared.Code.{Code}
+use Rattle.code.specs.Judge.{judgeOf}
+use Rattle.code.specs.Judge as judge
+use Rattle.code.specs.Wanted.{wantedOf, wantedNumber, wantedBits}
+use Rattle.balance.specs.Balance.{balancesOf}
+use Rattle.word.specs.Writing.{writeOf}
+use Rattle.word.specs.Writing as writing
+use Rattle.word.specs.Reading as reading
+use Rattle.desk.specs.declared.CheckBits.{CheckBits}
+use Rattle.desk.specs.declared.Judgement.{Judgement}
+use Rattle.desk.specs.declared.RowBalance.{RowBalance}
+use Rattle.desk.specs.declared.CheckWord.{CheckWord}
+use Rattle.desk.specs.declared.ReadWord.{ReadWord}
+
+abbrev pub checkBitsOf : ℕ → CheckBits
+checkBitsOf k = record { number = wantedNumber (wantedOf k); bits = wantedBits (wantedOf k) }
+
+abbrev pub judgementOf : Code → Judgement
+judgementOf code = record { number = judge.numberOf (judgeOf code); told = judge.toldOf (judgeOf code) }
+
+abbrev pub rowsOf : Code → RowBalance
+rowsOf code =
+    record {
+      number = balancesOf code .number;
+      told = balancesOf code .told;
+      rows = balancesOf code .rows;
+    }
+
+abbrev pub writtenOf : Code → ℕ → CheckWord
+writtenOf code low =
+    record {
+      number = writing.numberOf (writeOf code low);
+      told = writing.toldOf (writeOf code low);
+      check = writing.checksIn (writeOf code low);
+    }
+
+abbrev pub readOf : Code → ℕ → ℕ → ReadWord
+readOf code low high =
+    record {
+      number = reading.numberOf (reading.readOf code low high);
+      told = reading.toldOf (reading.readOf code low high);
+      verdict = reading.verdictOf (reading.readOf code low high);
+      place = reading.placeOf (reading.readOf code low high);
+      «data» = reading.handedBack (reading.readOf code low high) .«data»;
+      check = reading.handedBack (reading.readOf code low high) .check;
+    }
