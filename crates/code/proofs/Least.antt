@@ -11,7 +11,7 @@ use lib.Pow.{pow-mono, pow-pos}
 use Rattle.parity.proofs.Ones.{below-or-not}
 use Rattle.columns.specs.Mix.{column}
 use Rattle.code.specs.declared.Code.{Code}
-use Rattle.code.specs.Rule.{Hsiao, Sound}
+use Rattle.code.specs.Rule.{AcceptedCode}
 use Rattle.code.specs.Opened.{padded}
 use Rattle.code.specs.Wanted.{bandOf, Exists}
 use Rattle.code.proofs.Table.{judge-rule}
@@ -56,16 +56,14 @@ wanted-exists k some few =
       };
     }
 
-pub wanted-least : (k r : ℕ) → 1 ≤ k → k ≤ 64 → Exists k r → bandOf k ≤ r
-wanted-least k r some few x =
-    let c = x .code in
-    let s = judge-rule 64 (c .columns) (c .k) (c .r) .0 (x .taken .verdict) in
-    let n = length-take-le (c .k) (c .columns) (omega (arith, s .limits .sized .few, x .taken .places)) in
-    let full = room (take (c .k) (c .columns)) (c .r) (omega (arith, s .limits .least)) (s .rule) in
+pub wanted-least : (code : Code) → AcceptedCode code → bandOf (code .k) ≤ code .r
+wanted-least code a =
+    let s = judge-rule 64 (code .columns) (code .k) (code .r) .0 (a .verdict) in
+    let some = s .limits .sized .some in
+    let few = s .limits .sized .few in
+    let n = length-take-le (code .k) (code .columns) (omega (arith, a .places)) in
+    let full = room (take (code .k) (code .columns)) (code .r) (omega (arith, s .limits .least)) (s .rule) in
     ⊎-elim
-    (λ (l : r < bandOf k).
-    let least = band-least k r some few (omega (arith, s .limits .least, x .checks)) l in
-    let e = ap (λ (m : ℕ). 2 ^ (m - 1)) (x .checks) in
-    absurd (omega (arith, n, full, x .bits, x .checks)))
-    (λ (l : bandOf k ≤ r). l)
-    (below-or-not r (bandOf k))
+    (λ (l : code .r < bandOf (code .k)). absurd (omega (arith, band-least (code .k) (code .r) some few (omega (arith, s .limits .least)) l)))
+    (λ (l : bandOf (code .k) ≤ code .r). l)
+    (below-or-not (code .r) (bandOf (code .k)))

@@ -111,7 +111,7 @@ module _ (code : Code) (taken : AcceptedCode code) where
     pub whole-fits : Unstrayed code (wordOf (code .k) a b)
     whole-fits = omega (arith, digits-lt {q = b} {m = 2 ^ code .r} {r = a} {c = 2 ^ code .k} hb ha, pow-add 2 (code .k) (code .r))
 
-    whole-syndrome : syndrome code (wordOf (code .k) a b) ≡ bitXor (mix (take (code .k) (code .columns)) a) b
+    pub whole-syndrome : syndrome code (wordOf (code .k) a b) ≡ bitXor (mix (take (code .k) (code .columns)) a) b
     whole-syndrome =
         let m = whole-mix (take (code .k) (code .columns)) (code .r) a b in
         let n = data-size code taken in
@@ -121,10 +121,10 @@ module _ (code : Code) (taken : AcceptedCode code) where
     pub read-whole : readOf code a b ≡ readWord code (wordOf (code .k) a b)
     read-whole = sym (ap₂ (readOf code) (data-back (code .k) a b ha) (check-back (code .k) a b ha))
 
-    parts : wordAt code (wordOf (code .k) a b) ≡ asRead a b
+    pub parts : wordAt code (wordOf (code .k) a b) ≡ asRead a b
     parts = ap₂ asRead (data-back (code .k) a b ha) (check-back (code .k) a b ha)
 
-    written : writeOf code a ≡ Checks (mix (take (code .k) (code .columns)) a)
+    pub written : writeOf code a ≡ Checks (mix (take (code .k) (code .columns)) a)
     written =
         write-checks code a (taken .verdict) (lt-leb (2 ^ code .k) a ha)
         ∙ ap Checks (written-is-mix code a (sound code taken .rule))
