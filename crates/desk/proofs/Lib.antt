@@ -1,3 +1,5 @@
 pub mod Codes
 pub mod Words
+pub mod OfCodes
+pub mod OfWords
 pub mod Demands
