@@ -2,3 +2,4 @@ pub mod Search
 pub mod Masks
 pub mod Parts
 pub mod Flips
+pub mod Checking

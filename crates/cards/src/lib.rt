@@ -1,8 +1,11 @@
-// The card check, over a part of a word's places.
+// The card check: over a part of a word's places, and of a whole code.
 ghost use mathlib.Core.Path.{_≡_};
 ghost use Prim.Native.Nat.{_+_, _*_, _≤_, _<_};
 ghost use lib.ListN.{length};
 ghost use Rattle.cards.specs.Cards.{cardsIn, weakMask, weakMaskIn, tryCard, weakCardIn};
+ghost use Rattle.cards.specs.Checking.{cardedIn, cardedOf, numberOf, toldOf, cardOf, maskOf};
+use code::Code;
+use code::Judged;
 
 // What a search finds: a card's number, and a mask of it that breaks the rule.
 pub enum Found {
@@ -76,4 +79,91 @@ fn weak_card_in(columns: &[u16], part: &[u16], b: usize, first: usize) -> Found
         t += 1;
     }
     Found::Nothing
+}
+
+// The answer to the card question; a weak code with the first weak card and its smallest mask.
+pub enum Carded {
+    Refused(Judged),
+    BadSize,
+    Weak(usize, usize),
+    Proof,
+}
+
+// The n columns of a code, whose cards of b places run straight on over all of them.
+fn check_in(columns: &[u16], b: usize) -> Carded
+    requires { ⌜ length (now columns) ≤ 1024 ⌝ }
+    ensures { λ a. ⌜ a ≡ cardedIn (now (columns .entry)) b ⌝ }
+{
+    if b < 2 {
+        return Carded::BadSize;
+    }
+    if b > 8 {
+        return Carded::BadSize;
+    }
+    match weak_card_in(columns, columns, b, 0) {
+        Found::Nothing => Carded::Proof,
+        Found::At(card, mask) => Carded::Weak(card, mask),
+    }
+}
+
+// Whether a code is card-proof for cards of b places.
+pub fn card_check(code: Code, b: usize) -> Carded
+    ensures { λ a. ⌜ a ≡ cardedOf code b ⌝ }
+{
+    let opened = code::open_code(code);
+    let verdict = opened.verdict;
+    let Judged::Accepted = verdict else {
+        return Carded::Refused(verdict);
+    };
+    let n = code.k + code.r;
+    let columns = opened.columns;
+    check_in(&columns[..n], b)
+}
+
+// Document 01's number of an answer.
+pub fn number_of(a: Carded) -> usize
+    ensures { λ n. ⌜ n ≡ numberOf a ⌝ }
+{
+    match a {
+        Carded::Refused(v) => code::number_of(v),
+        Carded::BadSize => 8,
+        Carded::Weak(_, _) => 9,
+        Carded::Proof => 0,
+    }
+}
+
+// The told place: the bad column's, where the code is refused.
+pub fn told_of(a: Carded) -> usize
+    ensures { λ p. ⌜ p ≡ toldOf a ⌝ }
+{
+    match a {
+        Carded::Refused(v) => code::told_of(v),
+        Carded::BadSize => 0,
+        Carded::Weak(_, _) => 0,
+        Carded::Proof => 0,
+    }
+}
+
+// The told card.
+pub fn card_of(a: Carded) -> usize
+    ensures { λ t. ⌜ t ≡ cardOf a ⌝ }
+{
+    match a {
+        Carded::Refused(_) => 0,
+        Carded::BadSize => 0,
+        Carded::Weak(card, _) => card,
+        Carded::Proof => 0,
+    }
+}
+
+// The told mask.
+pub fn mask_of(a: Carded) -> usize
+    ensures { λ m. ⌜ m ≡ maskOf a ⌝ }
+{
+    match a {
+        Carded::Refused(_) => 0,
+        Carded::BadSize => 0,
+        Carded::Weak(_, mask) => mask,
+        Carded::Proof => 0,
+    }
 }
