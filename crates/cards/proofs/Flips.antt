@@ -1,19 +1,17 @@
 -- What it is to be card-proof for: two or more flips within one card of a word of syndrome 0 are flagged. Assumes nothing.
 use mathlib.Core.Path.{_≡_, sym, ap, ap₂, _∙_}
 use mathlib.Core.Logic.{⊎-elim}
-use mathlib.Core.List.{List, [], _++_, append-assoc, append-nil}
+use mathlib.Core.List.{List, _++_, append-assoc}
 use Prim.Native.Nat.{ℕ, _+_, _*_, _^_, _≤_, _<_}
-use native.Mathlib.Nat.{zero-add}
 use native.Mathlib.Omega.{arith}
 use lib.Bits.{bitXor, xor-zero-r}
 use lib.Count.{ones}
 use lib.ListN.{length, take, drop, length-append, take-append-drop}
-use lib.Pow.{pow-pos}
+use lib.Pow.{pow-pos, pow-mono, shl-lt}
 use lib.Seq.{length-take-le}
 use Rattle.parity.proofs.Ones.{below-or-not}
-use Rattle.columns.specs.Mix.{mix, placeIn}
+use Rattle.columns.specs.Mix.{mix}
 use Rattle.columns.proofs.Linear.{mix-xor, mix-zero, mix-append}
-use Rattle.columns.proofs.Places.{place-none}
 use Rattle.cards.specs.Cards.{cardAt}
 use Rattle.cards.specs.Rule.{Flagged, CardProof, flipMask}
 use Rattle.cards.proofs.Parts.{card-past, few-ones}
@@ -60,8 +58,17 @@ module _ (front part back : List ℕ) (b t : ℕ) (there : t * b ≤ length part
       ap₂ (λ (l : List ℕ) (n : ℕ). mix l (mask * 2 ^ n)) split-card (sym card-starts)
       ∙ mix-stretch before-card (cardAt b part t) after-card mask h
 
+  -- a mask of its places stays within the list's places
+  pub card-ends : (mask : ℕ) → mask < 2 ^ length (cardAt b part t) → mask * 2 ^ (length front + t * b) < 2 ^ length (front ++ (part ++ back))
+  card-ends mask h =
+      let start = length front + t * b in
+      let size = length (cardAt b part t) in
+      let end : size + start ≤ length (front ++ (part ++ back)) =
+      omega (arith, ap length split-card, length-append before-card (cardAt b part t ++ after-card), length-append (cardAt b part t) after-card, card-starts) in
+      omega (arith, shl-lt size start h, pow-mono end)
+
 -- the card that has a mask of two or more ones begins inside its part
-starts-inside : (part : List ℕ) (b t mask : ℕ) → mask < 2 ^ length (cardAt b part t) → 2 ≤ ones mask → t * b ≤ length part
+pub starts-inside : (part : List ℕ) (b t mask : ℕ) → mask < 2 ^ length (cardAt b part t) → 2 ≤ ones mask → t * b ≤ length part
 starts-inside part b t mask h s =
     ⊎-elim (λ (l : t * b < length part). omega arith)
     (λ l. absurd (few-ones mask (rw (card-past b part t l) at h) s))
@@ -83,12 +90,3 @@ module _ (cs front part back : List ℕ) (placed : cs ≡ front ++ (part ++ back
   -- under a card-proof part it is flagged
   pub flips-flagged : CardProof b cs part → Flagged cs (mix cs (flipMask w (length front + t * b) mask))
   flips-flagged proof = rw flips-made (proof t mask inside several)
-
--- cards straight on over all places
-pub flips-flagged-all : (cs : List ℕ) (b w t mask : ℕ) → CardProof b cs cs → mix cs w ≡ 0 → mask < 2 ^ length (cardAt b cs t) → 2 ≤ ones mask
-    → Flagged cs (mix cs (flipMask w (t * b) mask))
-flips-flagged-all cs b w t mask p clean h s = rw zero-add at (flips-flagged cs [] cs [] (sym (append-nil cs)) w clean b t mask h s p)
-
--- a flagged syndrome has no place
-pub flagged-nowhere : (cs : List ℕ) (s : ℕ) → Flagged cs s → placeIn cs s ≡ length cs
-flagged-nowhere cs s f = place-none cs s (f .no-column)

@@ -3,3 +3,4 @@ pub mod Masks
 pub mod Parts
 pub mod Flips
 pub mod Checking
+pub mod Flagged

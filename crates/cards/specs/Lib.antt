@@ -1,3 +1,4 @@
 pub mod Cards
 pub mod Rule
 pub mod Checking
+pub mod Flagging
