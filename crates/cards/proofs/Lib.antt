@@ -4,3 +4,4 @@ pub mod Parts
 pub mod Flips
 pub mod Checking
 pub mod Flagged
+pub mod Numbers
