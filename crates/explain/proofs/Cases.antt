@@ -1,12 +1,16 @@
--- Which case of the list by syndrome holds. Assumes nothing.
+-- Which case of a definition holds, from what its tests say. Assumes nothing.
 use mathlib.Core.Path.{_≡_}
 use mathlib.Core.Logic.{_≢_}
 use mathlib.Core.List.{List, [], _∷_}
-use Prim.Native.Nat.{ℕ, _≤_, _<_}
-use borrow.Author.Tests.{eq-eqb, ne-eqb, lt-ltb, le-ltb}
+use Prim.Native.Nat.{ℕ, _/_, _≤_, _<_}
+use borrow.Author.Tests.{eq-eqb, ne-eqb, lt-ltb, le-ltb, le-leb, lt-leb}
 use lib.ListN.{length}
 use Rattle.columns.specs.Mix.{placeIn}
+use Rattle.record.specs.Run.{over}
+use Rattle.explain.specs.Sets.{bytesFor, written}
 use Rattle.explain.specs.BySyndrome.{pairsBy, bySyndrome}
+
+-- ---- the list by syndrome
 
 module _ (cs : List ℕ) (s limit : ℕ) where
   pub by-zero : s ≡ 0 → bySyndrome cs s limit ≡ [] ∷ []
@@ -31,3 +35,14 @@ module _ (cs : List ℕ) (s limit : ℕ) where
         pub by-pairs : limit ≢ 1 → bySyndrome cs s limit ≡ pairsBy cs s
         unfolding bySyndrome
         by-pairs e = rw (ne-eqb s 0 some, ne-eqb limit 0 more, ← place, le-ltb p (length cs) none, ne-eqb limit 1 e)
+
+-- ---- a list of n entries, where there is room for it and where there is none
+
+module _ (l : List (List ℕ)) (d : List ℕ) (n : ℕ) (long : n ≡ length l) where
+  pub written-room : n ≤ length d / 2 → written l d ≡ over (bytesFor l) d
+  unfolding written
+  written-room h = rw (← long, le-leb n (length d / 2) h)
+
+  pub written-none : length d / 2 < n → written l d ≡ d
+  unfolding written
+  written-none h = rw (← long, lt-leb n (length d / 2) h)

@@ -11,9 +11,9 @@ use Rattle.parity.proofs.Xor.{by-digits}
 use Rattle.columns.specs.Mix.{placeIn}
 use Rattle.columns.specs.Rule.{Good}
 use Rattle.columns.proofs.Errors.{pairs-apart}
+use Rattle.code.proofs.Counting.{apart-below}
 use Rattle.explain.specs.BySyndrome.{pairsBy, bySyndrome}
 use Rattle.explain.proofs.Order.{PairFrom, pairs-at, pairs-in-order}
-use Rattle.explain.proofs.Pigeons.{pigeons}
 
 module _ {odd : ℕ → ℕ} {cs : List ℕ} (g : Good odd cs) (s : ℕ) where
   -- place x of one pair and place y of another are the same place: then the pairs are one, and x is y
@@ -48,7 +48,7 @@ module _ {odd : ℕ → ℕ} {cs : List ℕ} (g : Good odd cs) (s : ℕ) where
 
   pub few-pairs : 2 * length (pairsBy cs s) ≤ length cs
   few-pairs =
-      pigeons (length cs) (2 * length (pairsBy cs s)) (λ i. getD (getD (pairsBy cs s) (i / 2) []) (i % 2) 0)
+      apart-below (2 * length (pairsBy cs s)) (length cs) (λ i. getD (getD (pairsBy cs s) (i / 2) []) (i % 2) 0)
       (λ i h. inside (getD (pairsBy cs s) (i / 2) []) (i % 2) (omega arith) (pairs-at cs s (length cs) 0 (i / 2) (omega arith)))
       (λ i j h l e.
       let q = same-place (getD (pairsBy cs s) (i / 2) []) (getD (pairsBy cs s) (j / 2) []) (i % 2) (j % 2) (omega arith) (omega arith)

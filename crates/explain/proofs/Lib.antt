@@ -4,8 +4,6 @@ pub mod Partners
 pub mod Heart
 pub mod Cases
 pub mod Order
-pub mod Pigeons
 pub mod Few
 pub mod Facts
-pub mod Over
 pub mod Walk

@@ -5,9 +5,10 @@ use Prim.Native.Nat.{ℕ, zero, suc, _+_, _*_, _-_, _≤_, _<_}
 use native.Mathlib.Omega.{arith}
 use borrow.Author.Tests.{lt-ltb, le-ltb}
 use lib.ListN.{length, set, length-append}
-use Rattle.explain.specs.Sets.{entryOf, bytesFor, over}
+use Rattle.record.specs.Run.{over}
+use Rattle.record.proofs.Over.{over-two}
+use Rattle.explain.specs.Sets.{entryOf, bytesFor}
 use Rattle.explain.specs.BySyndrome.{partnerOf, pairAt, pairsFrom}
-use Rattle.explain.proofs.Over.{over-entry}
 
 -- ---- bytes
 
@@ -30,7 +31,7 @@ bytes-append (ps ∷ a) b = ap (λ (l : List ℕ). entryOf ps ++ l) (bytes-appen
 pub put-one : (l : List (List ℕ)) (then : List ℕ) (x y : ℕ) → bytesFor l ≡ x ∷ y ∷ [] → 2 * length l ≤ length then → set (set then 0 x) 1 y ≡ over (bytesFor l) then
 put-one l then x y e h =
     let two : length (bytesFor l) ≡ 2 = ap length e in
-    over-entry [] then 0 x y refl (omega (arith, length-bytes l)) ∙ ap (λ (b : List ℕ). over b then) (sym e)
+    over-two [] then 0 x y refl (omega (arith, length-bytes l)) ∙ ap (λ (b : List ℕ). over b then) (sym e)
 
 -- ---- the pairs of a part of the places
 
@@ -75,7 +76,7 @@ module _ (cs : List ℕ) (s p q : ℕ) (partner : q ≡ partnerOf cs s p) where
   unfolding bytesFor
   put-found now then a e f h l =
       ap (λ (x : List ℕ). set (set x a p) (a + 1) q) e
-      ∙ over-entry (bytesFor (pairsFrom cs s p 0)) then a p q (length-bytes (pairsFrom cs s p 0) ∙ sym f) h
+      ∙ over-two (bytesFor (pairsFrom cs s p 0)) then a p q (length-bytes (pairsFrom cs s p 0) ∙ sym f) h
       ∙ ap (λ (x : List ℕ). over x then)
       (sym (bytes-append (pairsFrom cs s p 0) ((p ∷ q ∷ []) ∷ [])) ∙ ap bytesFor (sym (next-found l)))
 

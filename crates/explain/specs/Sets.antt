@@ -3,8 +3,9 @@ use mathlib.Core.Bool.{Bool, cond}
 use mathlib.Core.List.{List, [], _∷_, _++_, map}
 use Prim.Native.Nat.{ℕ, zero, suc, _/_}
 use lib.Dec.{leb}
-use lib.ListN.{length, drop}
+use lib.ListN.{length}
 use Rattle.columns.specs.Mix.{flip}
+use Rattle.record.specs.Run.{over}
 
 -- w with each place of a set flipped
 unfoldable pub flipAll : ℕ → List ℕ → ℕ
@@ -37,10 +38,6 @@ entryOf (p ∷ q ∷ rest) = p ∷ q ∷ []
 unfoldable pub bytesFor : List (List ℕ) → List ℕ
 bytesFor [] = []
 bytesFor (ps ∷ rest) = entryOf ps ++ bytesFor rest
-
--- d with p in the place of its first elements
-abbrev pub over : List ℕ → List ℕ → List ℕ
-over p d = p ++ drop (length p) d
 
 -- d with the entries of a list in its first bytes, where there is room for all of them: two bytes each
 unfoldable pub written : List (List ℕ) → List ℕ → List ℕ

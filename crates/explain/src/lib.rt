@@ -2,7 +2,8 @@
 ghost use mathlib.Core.Path.{_≡_};
 ghost use Prim.Native.Nat.{_*_, _≤_, _<_};
 ghost use lib.ListN.{length};
-ghost use Rattle.explain.specs.Sets.{bytesFor, over, written};
+ghost use Rattle.record.specs.Run.{over};
+ghost use Rattle.explain.specs.Sets.{bytesFor, written};
 ghost use Rattle.explain.specs.BySyndrome.{partnerOf, pairsBy, bySyndrome};
 
 // The place above p whose column makes s with that of p, or the number of places where there is none.

@@ -5,7 +5,8 @@ use Prim.Native.Nat.{ℕ}
 use native.Mathlib.Omega.{arith}
 use borrow.Author.Needs.{needs}
 use lib.ListN.{length, length-set}
-use Rattle.explain.specs.Sets.{bytesFor, over}
+use Rattle.record.specs.Run.{over}
+use Rattle.explain.specs.Sets.{bytesFor}
 use Rattle.explain.specs.BySyndrome.{pairsBy, bySyndrome}
 use Rattle.explain.proofs.Cases.{by-zero, by-none, by-place, by-no-place, by-pairs}
 use Rattle.explain.proofs.Walk.{put-one}

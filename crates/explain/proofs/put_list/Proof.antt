@@ -2,7 +2,7 @@
 use mathlib.Core.Path.{sym, _∙_}
 use borrow.Author.Needs.{needs}
 use Rattle.explain.specs.BySyndrome.{bySyndrome}
-use Rattle.explain.proofs.Over.{written-room, written-none}
+use Rattle.explain.proofs.Cases.{written-room, written-none}
 use Rattle.explain.proofs.put_list.Statement.{statement}
 use Rattle.explain.proofs.put_list.Tie as tie
 

@@ -5,7 +5,8 @@ use mathlib.Core.Path.{_≡_, refl}
 use native.Mathlib.Omega.{arith}
 use borrow.Author.Needs.{needs}
 use lib.ListN.{length, length-set}
-use Rattle.explain.specs.Sets.{bytesFor, over}
+use Rattle.record.specs.Run.{over}
+use Rattle.explain.specs.Sets.{bytesFor}
 use Rattle.explain.specs.BySyndrome.{pairsFrom}
 use Rattle.explain.proofs.Walk.{next-missing, count-found, put-found, pairs-most}
 use Rattle.explain.proofs.put_pairs.Statement.{statement}
