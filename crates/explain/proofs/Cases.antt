@@ -1,14 +1,23 @@
 -- Which case of a definition holds, from what its tests say. Assumes nothing.
 use mathlib.Core.Path.{_≡_}
+use mathlib.Core.Bool.{true, false}
 use mathlib.Core.Logic.{_≢_}
 use mathlib.Core.List.{List, [], _∷_}
 use Prim.Native.Nat.{ℕ, _/_, _≤_, _<_}
 use borrow.Author.Tests.{eq-eqb, ne-eqb, lt-ltb, le-ltb, le-leb, lt-leb}
 use lib.ListN.{length}
 use Rattle.columns.specs.Mix.{placeIn}
+use Rattle.code.specs.declared.Code.{Code}
+use Rattle.code.specs.declared.Judged.{Judged}
+use Rattle.code.specs.declared.Judged.the-variants.{Accepted}
+use Rattle.code.specs.Judge.{judgeOf, accepted}
+use Rattle.word.specs.Word.{strayIn}
+use Rattle.word.specs.Verdicts.{placesOf}
 use Rattle.record.specs.Run.{over}
+use Rattle.explain.specs.declared.Explained.the-variants.{Refused, Stray, OverLimit, NoRoom, Listed}
 use Rattle.explain.specs.Sets.{bytesFor, written}
 use Rattle.explain.specs.BySyndrome.{pairsBy, bySyndrome}
+use Rattle.explain.specs.Explanations.{explanationsOf, roomIn, explainedOf}
 
 -- ---- the list by syndrome
 
@@ -46,3 +55,29 @@ module _ (l : List (List ℕ)) (d : List ℕ) (n : ℕ) (long : n ≡ length l) 
   pub written-none : length d / 2 < n → written l d ≡ d
   unfolding written
   written-none h = rw (← long, lt-leb n (length d / 2) h)
+
+-- ---- the answer
+
+module _ (code : Code) (low high limit size : ℕ) where
+  pub says-refused : (v : Judged) → judgeOf code ≡ v → accepted v ≡ false → explainedOf code low high limit size ≡ Refused v
+  unfolding explainedOf
+  says-refused v e h = rw (e, h)
+
+  module _ (taken : judgeOf code ≡ Accepted) where
+    pub says-stray : strayIn (placesOf code) (code .k) low high ≡ true → explainedOf code low high limit size ≡ Stray
+    unfolding explainedOf
+    says-stray h = rw (taken, h)
+
+    module _ (whole : strayIn (placesOf code) (code .k) low high ≡ false) where
+      pub says-limit : 2 < limit → explainedOf code low high limit size ≡ OverLimit
+      unfolding explainedOf
+      says-limit h = rw (taken, whole, lt-ltb 2 limit h)
+
+      module _ (few : limit ≤ 2) (n : ℕ) (long : length (explanationsOf code low high limit) ≡ n) where
+        pub says-no-room : roomIn size < n → explainedOf code low high limit size ≡ NoRoom n
+        unfolding explainedOf
+        says-no-room h = rw (taken, whole, le-ltb 2 limit few, long, lt-ltb (roomIn size) n h)
+
+        pub says-listed : n ≤ roomIn size → explainedOf code low high limit size ≡ Listed n
+        unfolding explainedOf
+        says-listed h = rw (taken, whole, le-ltb 2 limit few, long, le-ltb (roomIn size) n h)

@@ -7,3 +7,5 @@ pub mod Order
 pub mod Few
 pub mod Facts
 pub mod Walk
+pub mod Explanations
+pub mod Answers

@@ -1,3 +1,4 @@
 pub mod Sets
 pub mod Order
 pub mod BySyndrome
+pub mod Explanations

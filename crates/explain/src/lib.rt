@@ -5,6 +5,19 @@ ghost use lib.ListN.{length};
 ghost use Rattle.record.specs.Run.{over};
 ghost use Rattle.explain.specs.Sets.{bytesFor, written};
 ghost use Rattle.explain.specs.BySyndrome.{partnerOf, pairsBy, bySyndrome};
+ghost use Rattle.explain.specs.Explanations.{explainedOf, listAfter, numberOf, toldOf, lengthOf};
+use code::Code;
+use code::Judged;
+use word::Word;
+
+// The answer: the code's refusal, 7, 11, 10 with the list's length, or the length of the list that was written.
+pub enum Explained {
+    Refused(Judged),
+    Stray,
+    OverLimit,
+    NoRoom(usize),
+    Listed(usize),
+}
 
 // The place above p whose column makes s with that of p, or the number of places where there is none.
 fn partner(columns: &[u16], s: u16, p: usize) -> usize
@@ -108,4 +121,68 @@ fn put_list(columns: &[u16], s: u16, limit: usize, list: &mut [u8]) -> usize
         put_entries(columns, s, limit, list);
     }
     count
+}
+
+// The explanations of a word, listed.
+pub fn explain(code: Code, word: Word, limit: usize, list: &mut [u8]) -> Explained
+    ensures { λ a. ⌜ a ≡ explainedOf code (word .«data») (word .check) limit (length (now (list .entry))) ⌝ }
+    ensures { λ _. ⌜ now (list .exit) ≡ listAfter code (word .«data») (word .check) limit (now (list .entry)) ⌝ }
+{
+    let opened = code::open_code(code);
+    let verdict = opened.verdict;
+    let Judged::Accepted = verdict else {
+        return Explained::Refused(verdict);
+    };
+    let k = code.k;
+    let n = k + code.r;
+    if word::stray_in(n, k, word) {
+        return Explained::Stray;
+    }
+    if limit > 2 {
+        return Explained::OverLimit;
+    }
+    let columns = opened.columns;
+    let s = word::syndrome_in(&columns[..n], k, word);
+    let length = put_list(&columns[..n], s, limit, list);
+    if length > list.len() / 2 {
+        return Explained::NoRoom(length);
+    }
+    Explained::Listed(length)
+}
+
+// Document 01's number of an answer, what is told with it, and the length of a list that is done.
+pub fn number_of(a: Explained) -> usize
+    ensures { λ n. ⌜ n ≡ numberOf a ⌝ }
+{
+    match a {
+        Explained::Refused(v) => code::number_of(v),
+        Explained::Stray => 7,
+        Explained::OverLimit => 11,
+        Explained::NoRoom(_) => 10,
+        Explained::Listed(_) => 0,
+    }
+}
+
+pub fn told_of(a: Explained) -> usize
+    ensures { λ n. ⌜ n ≡ toldOf a ⌝ }
+{
+    match a {
+        Explained::Refused(v) => code::told_of(v),
+        Explained::Stray => 0,
+        Explained::OverLimit => 0,
+        Explained::NoRoom(n) => n,
+        Explained::Listed(_) => 0,
+    }
+}
+
+pub fn length_of(a: Explained) -> usize
+    ensures { λ n. ⌜ n ≡ lengthOf a ⌝ }
+{
+    match a {
+        Explained::Refused(_) => 0,
+        Explained::Stray => 0,
+        Explained::OverLimit => 0,
+        Explained::NoRoom(_) => 0,
+        Explained::Listed(n) => n,
+    }
 }
