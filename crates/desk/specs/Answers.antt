@@ -8,11 +8,17 @@ use Rattle.balance.specs.Balance.{balancesOf}
 use Rattle.word.specs.Writing.{writeOf}
 use Rattle.word.specs.Writing as writing
 use Rattle.word.specs.Reading as reading
+use Rattle.explain.specs.Explanations.{explainedOf}
+use Rattle.explain.specs.Explanations as explaining
+use Rattle.cards.specs.Checking.{cardedOf}
+use Rattle.cards.specs.Checking as checking
 use Rattle.desk.specs.declared.CheckBits.{CheckBits}
 use Rattle.desk.specs.declared.Judgement.{Judgement}
 use Rattle.desk.specs.declared.RowBalance.{RowBalance}
 use Rattle.desk.specs.declared.CheckWord.{CheckWord}
 use Rattle.desk.specs.declared.ReadWord.{ReadWord}
+use Rattle.desk.specs.declared.Listing.{Listing}
+use Rattle.desk.specs.declared.CardCheck.{CardCheck}
 
 abbrev pub checkBitsOf : ℕ → CheckBits
 checkBitsOf k = record { number = wantedNumber (wantedOf k); bits = wantedBits (wantedOf k) }
@@ -45,4 +51,22 @@ readOf code low high =
       place = reading.placeOf (reading.readOf code low high);
       «data» = reading.handedBack (reading.readOf code low high) .«data»;
       check = reading.handedBack (reading.readOf code low high) .check;
+    }
+
+-- for a lent list of `size` bytes; what the bytes hold afterwards is `listAfter` of crate explain
+abbrev pub listingOf : Code → ℕ → ℕ → ℕ → ℕ → Listing
+listingOf code low high limit size =
+    record {
+      number = explaining.numberOf (explainedOf code low high limit size);
+      told = explaining.toldOf (explainedOf code low high limit size);
+      length = explaining.lengthOf (explainedOf code low high limit size);
+    }
+
+abbrev pub cardsOf : Code → ℕ → CardCheck
+cardsOf code b =
+    record {
+      number = checking.numberOf (cardedOf code b);
+      told = checking.toldOf (cardedOf code b);
+      card = checking.cardOf (cardedOf code b);
+      mask = checking.maskOf (cardedOf code b);
     }

@@ -1,6 +1,8 @@
 // What a caller outside links: one function for each question, total, each answer a struct by value.
 ghost use mathlib.Core.Path.{_≡_};
-ghost use Rattle.desk.specs.Answers.{checkBitsOf, judgementOf, rowsOf, writtenOf, readOf};
+ghost use lib.ListN.{length};
+ghost use Rattle.explain.specs.Explanations.{listAfter};
+ghost use Rattle.desk.specs.Answers.{checkBitsOf, judgementOf, rowsOf, writtenOf, readOf, listingOf, cardsOf};
 use code::Code;
 use word::Word;
 
@@ -105,5 +107,54 @@ pub extern "C" fn desk_read(code: Code, data: u64, check: u16) -> ReadWord
         place: word::reading_place(reading),
         data: handed.data,
         check: handed.check,
+    }
+}
+
+// Explanations: the list's length where it is done; the list itself stands in the lent bytes.
+#[repr(C)]
+pub struct Listing {
+    pub number: usize,
+    pub told: usize,
+    pub length: usize,
+}
+
+#[no_mangle]
+pub extern "C" fn desk_explain(
+    code: Code,
+    data: u64,
+    check: u16,
+    limit: usize,
+    list: &mut [u8],
+) -> Listing
+    ensures { λ a. ⌜ a ≡ listingOf code «data» check limit (length (now (list .entry))) ⌝ }
+    ensures { λ _. ⌜ now (list .exit) ≡ listAfter code «data» check limit (now (list .entry)) ⌝ }
+{
+    let answer = explain::explain(code, Word { data, check }, limit, list);
+    Listing {
+        number: explain::number_of(answer),
+        told: explain::told_of(answer),
+        length: explain::length_of(answer),
+    }
+}
+
+// The card check: the first weak card and its smallest mask, where the number is 9.
+#[repr(C)]
+pub struct CardCheck {
+    pub number: usize,
+    pub told: usize,
+    pub card: usize,
+    pub mask: usize,
+}
+
+#[no_mangle]
+pub extern "C" fn desk_cards(code: Code, b: usize) -> CardCheck
+    ensures { λ a. ⌜ a ≡ cardsOf code b ⌝ }
+{
+    let answer = cards::card_check(code, b);
+    CardCheck {
+        number: cards::number_of(answer),
+        told: cards::told_of(answer),
+        card: cards::card_of(answer),
+        mask: cards::mask_of(answer),
     }
 }
