@@ -2,6 +2,8 @@
 use Rattle.desk.specs.Demands as demands
 use Rattle.desk.proofs.OfCodes as codes
 use Rattle.desk.proofs.OfWords as words
+use Rattle.desk.proofs.OfLists as lists
+use Rattle.desk.proofs.OfCards as cards
 
 -- ---- the code
 
@@ -54,3 +56,28 @@ mended-clean = words.mended-clean
 
 pub left-as-read : demands.LeftAsRead
 left-as-read = words.left-as-read
+
+-- ---- explanations
+
+pub explaining-refuses : demands.ExplainingRefuses
+explaining-refuses = lists.explaining-refuses
+
+pub explained-exactly : demands.ExplainedExactly
+explained-exactly = lists.explained-exactly
+
+pub explained-once : demands.ExplainedOnce
+explained-once = lists.explained-once
+
+pub explained-in-order : demands.ExplainedInOrder
+explained-in-order = lists.explained-in-order
+
+pub explained-flips : demands.ExplainedFlips
+explained-flips = lists.explained-flips
+
+-- ---- cards
+
+pub cards-refuse : demands.CardsRefuse
+cards-refuse = cards.cards-refuse
+
+pub card-flagged : demands.CardFlagged
+card-flagged = cards.card-flagged-read

@@ -2,4 +2,6 @@ pub mod Codes
 pub mod Words
 pub mod OfCodes
 pub mod OfWords
+pub mod OfLists
+pub mod OfCards
 pub mod Demands

@@ -10,6 +10,8 @@ use Rattle.word.specs.Word.{wordOf, dataOf, checkOf}
 use Rattle.desk.specs.declared.Judgement.{Judgement}
 use Rattle.desk.specs.declared.CheckWord.{CheckWord}
 use Rattle.desk.specs.declared.ReadWord.{ReadWord}
+use Rattle.desk.specs.declared.Listing.{Listing}
+use Rattle.desk.specs.declared.CardCheck.{CardCheck}
 use Rattle.desk.specs.Answers.{judgementOf, readOf}
 
 -- a code as it is handed about has 64 places
@@ -60,6 +62,12 @@ refusedWriting j = record { number = j .number; told = j .told; check = 0 }
 
 abbrev pub refusedReading : Judgement → ReadWord
 refusedReading j = record { number = j .number; told = j .told; verdict = 0; place = 0; «data» = 0; check = 0 }
+
+abbrev pub refusedListing : Judgement → Listing
+refusedListing j = record { number = j .number; told = j .told; length = 0 }
+
+abbrev pub refusedCards : Judgement → CardCheck
+refusedCards j = record { number = j .number; told = j .told; card = 0; mask = 0 }
 
 -- a number that tells nothing
 abbrev pub only : ℕ → Judgement

@@ -4,10 +4,13 @@
 use mathlib.Core.Path.{_≡_}
 use mathlib.Core.Logic.{_≢_, _⊎_, _↔_}
 use mathlib.Core.Bool.{cond}
-use Prim.Native.Nat.{ℕ, _+_, _-_, _*_, _^_, _≤_, _<_}
+use mathlib.Core.List.{List, [], _∷_, List·Memᴰ}
+use Prim.Native.Nat.{ℕ, _+_, _-_, _*_, _/_, _^_, _≤_, _<_, min, max}
 use lib.Bits.{bitXor}
+use lib.Count.{ones}
 use lib.Dec.{ltb}
 use lib.IntN.{pos}
+use lib.ListN.{length, getD}
 use Rattle.parity.specs.Odd.{oddOnes}
 use Rattle.columns.specs.Mix.{column, flip}
 use Rattle.columns.specs.Bits.{bitAt, rowBit}
@@ -16,8 +19,14 @@ use Rattle.code.specs.declared.Judged.{Judged}
 use Rattle.code.specs.Judge.{numberOf, toldOf}
 use Rattle.code.specs.Rule.{matrixOf, Limits, Says}
 use Rattle.balance.specs.Balance.{sumℤ}
-use Rattle.desk.specs.Answers.{checkBitsOf, judgementOf, rowsOf, writtenOf, readOf}
-use Rattle.desk.specs.Definitions.{Handed, Stored, Accepted, Refused, dataColumns, placesOf, Unstrayed, read, handedBack, Clean, refusedWriting, refusedReading, only}
+use Rattle.record.specs.Run.{over}
+use Rattle.explain.specs.Sets.{flipAll, bytesFor}
+use Rattle.explain.specs.Order.{SetOf, InOrder}
+use Rattle.explain.specs.Explanations.{explanations, explanationsOf, listAfter}
+use Rattle.cards.specs.Cards.{cardAt}
+use Rattle.cards.specs.Rule.{CardProof, FirstWeak, flipMask}
+use Rattle.desk.specs.Answers.{checkBitsOf, judgementOf, rowsOf, writtenOf, readOf, listingOf, cardsOf}
+use Rattle.desk.specs.Definitions.{Handed, Stored, Accepted, Refused, dataColumns, placesOf, Unstrayed, read, handedBack, Clean, refusedWriting, refusedReading, refusedListing, refusedCards, only}
 
 -- ---- the code
 
@@ -139,3 +148,71 @@ LeftAsRead =
     → (read code w .place ≡ 255)
     × (handedBack code (read code w) ≡ w)
     × ((p : ℕ) → p < placesOf code → ¬ (Clean code (flip w p)))
+
+-- ---- explanations
+
+-- Explaining refuses in this order: the code's number and place; 7 for a stray bit; 11 for a limit over 2; 10, told the list's length, where that
+-- is more than half the lent bytes, rounded down. A refusal changes no byte. Else the length is handed back, and the lent bytes hold the
+-- entries and then what they held.
+abbrev pub ExplainingRefuses : Type 0
+ExplainingRefuses =
+    (code : Code) (low high limit : ℕ) (list : List ℕ)
+    → let a = listingOf code low high limit (length list) in
+    let after = listAfter code low high limit list in
+    let sets = explanationsOf code low high limit in
+    (Refused code → (a ≡ refusedListing (judgementOf code)) × (after ≡ list))
+    × (Accepted code → (2 ^ code .k ≤ low) ⊎ (2 ^ code .r ≤ high) → (a ≡ refusedListing (only 7)) × (after ≡ list))
+    × (Accepted code → low < 2 ^ code .k → high < 2 ^ code .r → 2 < limit → (a ≡ refusedListing (only 11)) × (after ≡ list))
+    × (Accepted code → low < 2 ^ code .k → high < 2 ^ code .r → limit ≤ 2 → length list / 2 < length sets
+    → (a ≡ refusedListing (record { number = 10; told = length sets })) × (after ≡ list))
+    × (Accepted code → low < 2 ^ code .k → high < 2 ^ code .r → limit ≤ 2 → length sets ≤ length list / 2
+    → (a ≡ record { number = 0; told = 0; length = length sets }) × (after ≡ over (bytesFor sets) list))
+
+-- A set of places stands in the list exactly when it has at most `limit` of the n places and flipping exactly those gives a word that reads clean.
+abbrev pub ExplainedExactly : Type 0
+ExplainedExactly =
+    (code : Code) → Accepted code → (w : ℕ) → Unstrayed code w → (limit : ℕ) (ps : List ℕ)
+    → List·Memᴰ ps (explanations code w limit) ↔ (SetOf (placesOf code) limit ps × Clean code (flipAll w ps))
+
+-- Each set once, fewer places first, then the lower first place; and never more than 40.
+abbrev pub ExplainedOnce : Type 0
+ExplainedOnce =
+    (code : Code) → Accepted code → (w : ℕ) → Unstrayed code w → (limit : ℕ) → limit ≤ 2
+    → (i j : ℕ) → i < length (explanations code w limit) → j < length (explanations code w limit)
+    → getD (explanations code w limit) i [] ≡ getD (explanations code w limit) j [] → i ≡ j
+
+abbrev pub ExplainedInOrder : Type 0
+ExplainedInOrder =
+    (code : Code) → Accepted code → (w : ℕ) → Unstrayed code w → (limit : ℕ) → limit ≤ 2
+    → InOrder (explanations code w limit) × (length (explanations code w limit) ≤ 40)
+
+-- From a clean word the list is the empty set alone; after one flip that place alone; after two flips it holds that pair.
+abbrev pub ExplainedFlips : Type 0
+ExplainedFlips =
+    (code : Code) → Accepted code → (w : ℕ) → Unstrayed code w → Clean code w
+    → ((limit : ℕ) → limit ≤ 2 → explanations code w limit ≡ [] ∷ [])
+    × ((limit : ℕ) → 1 ≤ limit → limit ≤ 2 → (p : ℕ) → p < placesOf code → explanations code (flip w p) limit ≡ (p ∷ []) ∷ [])
+    × ((p q : ℕ) → p < placesOf code → q < placesOf code → p ≢ q → List·Memᴰ (min p q ∷ max p q ∷ []) (explanations code (flip (flip w p) q) 2))
+
+-- ---- cards
+
+-- The card check refuses in this order: the code's number and place; 8 for b below 2 or over 8; 9, told the first weak card and its smallest
+-- mask, exactly when the code is not card-proof for b.
+abbrev pub CardsRefuse : Type 0
+CardsRefuse =
+    (code : Code) (b : ℕ)
+    → (Refused code → cardsOf code b ≡ refusedCards (judgementOf code))
+    × (Accepted code → (b < 2) ⊎ (8 < b) → cardsOf code b ≡ refusedCards (only 8))
+    × (Accepted code → 2 ≤ b → b ≤ 8 → (cardsOf code b ≡ refusedCards (only 0)) ↔ CardProof b (matrixOf code) (matrixOf code))
+    × (Accepted code → 2 ≤ b → b ≤ 8 → (card mask : ℕ)
+    → (cardsOf code b ≡ record { number = 9; told = 0; card = card; mask = mask }) ↔ FirstWeak b (matrixOf code) (matrixOf code) card mask)
+    × (Accepted code → 2 ≤ b → b ≤ 8 → (cardsOf code b .number ≡ 0) ⊎ (cardsOf code b .number ≡ 9))
+
+-- What it is for: under a card-proof code two or more flips within one card of a clean word are flagged, never mended and never clean.
+abbrev pub CardFlagged : Type 0
+CardFlagged =
+    (code : Code) (b : ℕ) → Handed code → cardsOf code b .number ≡ 0
+    → (w : ℕ) → Unstrayed code w → Clean code w
+    → (t mask : ℕ) → mask < 2 ^ length (cardAt b (matrixOf code) t) → 2 ≤ ones mask
+    → let u = flipMask w (t * b) mask in
+    ((read code u .verdict ≡ 3) ⊎ (read code u .verdict ≡ 4)) × (handedBack code (read code u) ≡ u)
