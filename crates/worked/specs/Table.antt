@@ -1,0 +1,107 @@
+-- Document 01, "The sample code, worked": the items marked P, as one table. Each row names a question and the answer that the exported function
+-- is to give; `right` asks whether its definition gives it. Assumes nothing.
+use mathlib.Core.Bool.{Bool, true, false, _&&_}
+use mathlib.Core.List.{List, [], _∷_, _++_}
+use Prim.Native.Nat.{ℕ, _-_}
+use lib.Bits.{bitXor}
+use lib.Dec.{eqb}
+use lib.IntN.{ℤ, pos, negsuc}
+use lib.ListN.{length, replicate}
+use Rattle.code.specs.declared.Code.{Code}
+use Rattle.code.specs.Rule.{matrixOf}
+use Rattle.balance.specs.Balance.{allOnes}
+use Rattle.explain.specs.Explanations.{listAfter}
+use Rattle.desk.specs.Answers.{judgementOf, rowsOf, writtenOf, readOf, listingOf, cardsOf}
+
+-- a code of these columns, 0 in the places past them
+abbrev pub codeOf : List ℕ → ℕ → Code
+codeOf columns r = record { columns = columns ++ replicate (64 - length columns) 0; k = length columns; r = r }
+
+abbrev pub sample : Code
+sample = codeOf (28 ∷ 26 ∷ 25 ∷ 22 ∷ 21 ∷ 19 ∷ 14 ∷ 13 ∷ []) 5
+
+-- columns 7 and 11 with r 4
+abbrev pub two : Code
+two = codeOf (7 ∷ 11 ∷ []) 4
+
+-- what is asked, and the answer
+pub data Case : Type 0 where
+  -- number and told place
+  judged : (code : Code) (number told : ℕ) → Case
+  -- all ones of the matrix
+  weighed : (code : Code) (ones : ℕ) → Case
+  -- the first r balances; the other rows are 0
+  balanced : (code : Code) (rows : List ℤ) → Case
+  -- the check bits of the data
+  written : (code : Code) (low check : ℕ) → Case
+  -- the syndrome of a word; its verdict, its place and the word handed back
+  syndrome : (code : Code) (low high s : ℕ) → Case
+  reads : (code : Code) (low high verdict place data₁ check₁ : ℕ) → Case
+  -- a list of explanations, in a lent buffer of zeros of this size: number, told, length, and the bytes afterwards
+  listed : (code : Code) (low high limit size number told entries : ℕ) (bytes : List ℕ) → Case
+  -- number, card and mask
+  carded : (code : Code) (b number card mask : ℕ) → Case
+
+abbrev pub sameℤ : ℤ → ℤ → Bool
+sameℤ (pos a) (pos b) = eqb a b
+sameℤ (pos a) (negsuc b) = false
+sameℤ (negsuc a) (pos b) = false
+sameℤ (negsuc a) (negsuc b) = eqb a b
+
+abbrev pub sameRows : List ℤ → List ℤ → Bool
+sameRows [] [] = true
+sameRows [] (y ∷ ys) = false
+sameRows (x ∷ xs) [] = false
+sameRows (x ∷ xs) (y ∷ ys) = sameℤ x y && sameRows xs ys
+
+abbrev pub sameBytes : List ℕ → List ℕ → Bool
+sameBytes [] [] = true
+sameBytes [] (y ∷ ys) = false
+sameBytes (x ∷ xs) [] = false
+sameBytes (x ∷ xs) (y ∷ ys) = eqb x y && sameBytes xs ys
+
+-- the answer is the one that the definitions give
+unfoldable pub right : Case → Bool
+right (judged code number told) = eqb (judgementOf code .number) number && eqb (judgementOf code .told) told
+right (weighed code n) = eqb (allOnes (matrixOf code)) n
+right (balanced code rows) = sameRows (rowsOf code .rows) (rows ++ replicate (16 - length rows) (pos 0))
+right (written code low check) = eqb (writtenOf code low .number) 0 && eqb (writtenOf code low .check) check
+right (syndrome code low high s) = eqb (bitXor (writtenOf code low .check) high) s
+right (reads code low high verdict place data₁ check₁) =
+    eqb (readOf code low high .number) 0 && eqb (readOf code low high .verdict) verdict && eqb (readOf code low high .place) place
+    && eqb (readOf code low high .«data») data₁ && eqb (readOf code low high .check) check₁
+right (listed code low high limit size number told entries bytes) =
+    eqb (listingOf code low high limit size .number) number && eqb (listingOf code low high limit size .told) told
+    && eqb (listingOf code low high limit size .length) entries && sameBytes (listAfter code low high limit (replicate size 0)) bytes
+right (carded code b number card mask) =
+    eqb (cardsOf code b .number) number && eqb (cardsOf code b .card) card && eqb (cardsOf code b .mask) mask
+
+unfoldable pub allRight : List Case → Bool
+allRight [] = true
+allRight (c ∷ cs) = right c && allRight cs
+
+unfoldable pub table : List Case
+table =
+    judged sample 0 0
+    ∷ weighed sample 29
+    ∷ balanced sample (negsuc 3 ∷ negsuc 3 ∷ pos 1 ∷ pos 1 ∷ pos 6 ∷ [])
+    ∷ written sample 0x01 28
+    ∷ written sample 0xFF 12
+    ∷ written sample 0xA5 27
+    ∷ reads sample 0xA5 27 0 255 0xA5 27
+    ∷ syndrome sample 0xA4 27 28
+    ∷ reads sample 0xA4 27 1 0 0xA5 27
+    ∷ reads sample 0xA5 26 2 8 0xA5 27
+    ∷ syndrome sample 0xA6 27 6
+    ∷ reads sample 0xA6 27 3 255 0xA6 27
+    ∷ listed sample 0xA6 27 2 10 0 0 5 (0 ∷ 1 ∷ 3 ∷ 12 ∷ 4 ∷ 5 ∷ 6 ∷ 11 ∷ 9 ∷ 10 ∷ [])
+    ∷ listed sample 0xA6 27 1 0 0 0 0 []
+    ∷ listed sample 0xA6 27 2 8 10 5 0 (replicate 8 0)
+    ∷ syndrome sample 0xA6 26 7
+    ∷ reads sample 0xA6 26 4 255 0xA6 26
+    ∷ listed sample 0xA6 26 0 0 0 0 0 []
+    ∷ listed sample 0xA6 26 1 0 0 0 0 []
+    ∷ listed sample 0xA6 26 2 0 0 0 0 []
+    ∷ carded two 3 0 0 0
+    ∷ carded two 4 9 0 13
+    ∷ []
