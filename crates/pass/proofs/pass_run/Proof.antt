@@ -1,0 +1,331 @@
+use mathlib.Core.Path.{_≡_, refl, sym, ap, ap₂, subst, _∙_}
+use mathlib.Core.List.{List}
+use Prim.Native.Nat.{ℕ, suc, _+_, _*_, _-_, _/_, _≤_, _<_}
+use native.Mathlib.Omega.{arith}
+use borrow.Rule.Slice.PartMut.{putMid}
+use lib.ListN.{length, take, drop}
+use Rattle.record.specs.Layout.{recordSize, entrySize}
+use Rattle.record.specs.Run.{recordAt, gather, sum, over}
+use Rattle.record.specs.Tally.{countedOf, tallyOf}
+use Rattle.record.specs.Journal.{unclean, neededOf, entriesOf}
+use Rattle.record.proofs.Over.{over-all}
+use Rattle.record.proofs.Run.{record-length, record-next, record-kept, gather-write, length-left, sum-mono}
+use Rattle.record.proofs.Tallies.{tally-step}
+use Rattle.record.proofs.Journal.{needed-clean, needed-more, entries-clean, entries-write, length-entries}
+use Rattle.pass.specs.Outcome.{verdictIn, placeFor, leftBy, entryBy, readingOf, verdictOf, leftOf, entryOf}
+use Rattle.pass.proofs.Outcomes as outcomes
+use borrow.Author.Needs.{needs}
+use Rattle.pass.proofs.pass_run.Statement.{statement}
+use Rattle.pass.proofs.pass_run.Tie as tie
+use Rattle.pass.proofs.pass_run.Reads as reads
+use Rattle.pass.proofs.pass_run.Lts as lts
+use Rattle.pass.proofs.enter.Reads as enter-reads
+use Rattle.pass.proofs.look.Reads as look-reads
+use Rattle.pass.proofs.verdict_in.Reads as verdict-in-reads
+use Rattle.record.proofs.Tally.counted.Reads as counted-reads
+use Rattle.record.proofs.Tally.new.Reads as new-reads
+
+-- the first i records as they are left, their entries, how many these are, and the tally
+abbrev left : List ℕ → ℕ → List ℕ → ℕ → List ℕ
+left columns k run i = gather recordSize (λ j. leftOf columns k) run i
+
+abbrev entries : List ℕ → ℕ → ℕ → List ℕ → ℕ → List ℕ
+entries columns k first run i = entriesOf recordSize (verdictOf columns k) (entryOf columns k) first run i
+
+abbrev count : List ℕ → ℕ → List ℕ → ℕ → ℕ
+count columns k run i = neededOf recordSize (verdictOf columns k) run i
+
+abbrev Inv-loop : tie.InvT-loop
+Inv-loop columns k run₀ first journal₀ n tally₀ used₀ i₀ run journal tally used i =
+    (i ≤ n)
+    × (n ≡ length run₀ / recordSize)
+    × (run ≡ over (left columns k run₀ i) run₀)
+    × (journal ≡ over (entries columns k first run₀ i) journal₀)
+    × (used ≡ entrySize * count columns k run₀ i)
+    × (tally ≡ tallyOf recordSize (verdictOf columns k) run₀ i)
+    × (length run ≡ length run₀)
+    × (length journal ≡ length journal₀)
+
+abbrev μ-loop : tie.MeasureT-loop
+μ-loop columns k run₀ first journal₀ n tally₀ used₀ i₀ run journal tally used i = n - i
+
+-- from the loop's head: the arguments; from the places in a turn: the loop's head
+abbrev start : tie.At-loop Inv-loop μ-loop → tie.Start Inv-loop μ-loop
+start c = c .before .before .before .before .before
+
+abbrev head : tie.After-look Inv-loop μ-loop → tie.At-loop Inv-loop μ-loop
+head c = c .before .before .before .before
+
+-- the columns, k, the run at the start, and the record's number in it
+abbrev cs : tie.After-look Inv-loop μ-loop → List ℕ
+cs c = start (head c) .args .columns .now
+
+abbrev k : tie.After-look Inv-loop μ-loop → ℕ
+k c = start (head c) .args .k
+
+abbrev run₀ : tie.After-look Inv-loop μ-loop → List ℕ
+run₀ c = start (head c) .args .run .now
+
+abbrev at : tie.After-look Inv-loop μ-loop → ℕ
+at c = head c .loop .i
+
+abbrev rec : tie.After-look Inv-loop μ-loop → List ℕ
+rec c = recordAt recordSize (run₀ c) (at c)
+
+-- the record lies within the run, and is still as it was
+fits : (c : tie.After-look Inv-loop μ-loop) → suc (at c) * recordSize ≤ length (run₀ c)
+fits c = omega arith
+
+here : (c : tie.After-look Inv-loop μ-loop) → take (at c * recordSize + recordSize - at c * recordSize) (drop (at c * recordSize) (head c .loop .run)) ≡ rec c
+here c =
+    record-next recordSize (λ j. leftOf (cs c) (k c)) (λ j. outcomes.length-left (cs c) (k c)) (run₀ c) (at c) (fits c) (head c .loop .run)
+    (at c * recordSize + recordSize - at c * recordSize) (head c .loop .inv .2) (omega arith)
+
+-- so what is found is what it was
+seen : (c : tie.After-look Inv-loop μ-loop) → c .look .result ≡ readingOf (cs c) (k c) (rec c)
+seen c = c .look .ensures ∙ ap (readingOf (cs c) (k c)) (here c)
+
+verdict-seen : (c : tie.After-verdict-in Inv-loop μ-loop) → c .verdict-in .result ≡ verdictOf (cs (c .before)) (k (c .before)) (rec (c .before))
+unfolding verdictOf
+verdict-seen c = c .verdict-in .ensures ∙ ap verdictIn (seen (c .before))
+
+-- the tally with the record counted
+tally-next : (c : tie.After-counted Inv-loop μ-loop)
+    → let l = c .before .before in c .counted .result ≡ tallyOf recordSize (verdictOf (cs l) (k l)) (run₀ l) (at l + 1)
+tally-next c =
+    let l = c .before .before in
+    c .counted .ensures
+    ∙ ap₂ countedOf (head l .loop .inv .5) (verdict-seen (c .before))
+    ∙ tally-step recordSize (verdictOf (cs l) (k l)) (run₀ l) (at l) (omega (arith, start (head l) .pre .1 .1 .0))
+
+-- an entry is needed, so there is room for it
+needed-next : (c : tie.Then1 Inv-loop μ-loop)
+    → let l = c .before .before .before in count (cs l) (k l) (run₀ l) (at l + 1) ≡ count (cs l) (k l) (run₀ l) (at l) + 1
+needed-next c =
+    let l = c .before .before .before in
+    needed-more recordSize (verdictOf (cs l) (k l)) (run₀ l) (at l) (λ z. c .if1 .taken (verdict-seen (c .before .before) ∙ z))
+
+room : (c : tie.Then1 Inv-loop μ-loop)
+    → let l = c .before .before .before in head l .loop .used + entrySize ≤ length (start (head l) .args .journal .now)
+room c =
+    let l = c .before .before .before in
+    omega (arith, needed-next c, start (head l) .pre .1 .1 .1,
+    sum-mono recordSize (unclean (verdictOf (cs l) (k l))) (run₀ l) (at l + 1) (length (run₀ l) / recordSize) (omega arith))
+
+-- the run with the record as it is left, and the journal with its entry
+left-next : (c : tie.After-enter Inv-loop μ-loop)
+    → let l = c .before .before .before .before .before .before in
+    putMid (at l * recordSize) (at l * recordSize + recordSize - at l * recordSize) (head l .loop .run) (c .enter .last .0) ≡ over (left (cs l) (k l) (run₀ l) (at l + 1)) (run₀ l)
+unfolding leftOf
+left-next c =
+    let l = c .before .before .before .before .before .before in
+    let size = outcomes.length-left (cs l) (k l) in
+    let same : c .enter .last .0 ≡ leftOf (cs l) (k l) (rec l) = c .enter .ensures .0 ∙ ap₂ leftBy (seen l) (here l) in
+    gather-write recordSize (λ j. leftOf (cs l) (k l)) (run₀ l) (at l) (run₀ l) (head l .loop .run) (c .enter .last .0)
+    (at l * recordSize) (at l * recordSize + recordSize - at l * recordSize) (head l .loop .inv .2)
+    (length-left recordSize (λ j. leftOf (cs l) (k l)) (λ j. size) (run₀ l) (at l) (omega (arith, fits l))) same
+    (ap length same ∙ size (rec l) (record-length recordSize (run₀ l) (at l) (fits l)) ∙ omega arith)
+
+entries-next : (c : tie.After-enter Inv-loop μ-loop)
+    → let l = c .before .before .before .before .before .before in
+    putMid (head l .loop .used) (head l .loop .used + entrySize - head l .loop .used) (head l .loop .journal) (c .enter .last .1 .0)
+    ≡ over (entries (cs l) (k l) (start (head l) .args .first) (run₀ l) (at l + 1)) (start (head l) .args .journal .now)
+unfolding entryOf
+entries-next c =
+    let t = c .before .before .before in
+    let l = t .before .before .before in
+    let first = start (head l) .args .first in
+    let size = outcomes.length-entryOf (cs l) (k l) in
+    let same : c .enter .last .1 .0 ≡ entryOf (cs l) (k l) (first + at l) (rec l) = c .enter .ensures .1 ∙ ap₂ (entryBy (first + at l)) (seen l) (here l) in
+    entries-write recordSize (verdictOf (cs l) (k l)) (run₀ l) (at l) (entryOf (cs l) (k l)) first
+    (start (head l) .args .journal .now) (head l .loop .journal) (c .enter .last .1 .0) (head l .loop .used) (head l .loop .used + entrySize - head l .loop .used)
+    (λ z. t .if1 .taken (verdict-seen (t .before .before) ∙ z)) (head l .loop .inv .3)
+    (length-entries recordSize (verdictOf (cs l) (k l)) (entryOf (cs l) (k l)) entrySize size first (run₀ l) (at l) (omega (arith, fits l)) ∙ sym (head l .loop .inv .4))
+    same (ap length same ∙ size (first + at l) (rec l) (record-length recordSize (run₀ l) (at l) (fits l)) ∙ omega arith)
+
+-- src/lib.rt:128:9
+new-requires : tie.Need-new-requires Inv-loop μ-loop
+new-requires c κs = search needs
+
+-- src/lib.rt:131:5
+loop-holds : tie.Need-loop-holds Inv-loop μ-loop
+unfolding gather sum
+loop-holds c = search needs
+
+-- src/lib.rt:132:18
+mul-at : tie.Need-mul-at Inv-loop μ-loop
+mul-at c = search needs
+
+-- src/lib.rt:133:19
+add-end : tie.Need-add-end Inv-loop μ-loop
+add-end c = search needs
+
+-- src/lib.rt:134:23
+add-number : tie.Need-add-number Inv-loop μ-loop
+add-number c = search needs
+
+-- src/lib.rt:134:22
+cast-number : tie.Need-cast-number Inv-loop μ-loop
+cast-number c = search needs
+
+-- src/lib.rt:135:40
+sub-look : tie.Need-sub-look Inv-loop μ-loop
+sub-look c = search needs
+
+-- src/lib.rt:135:40
+part-look-start : tie.Need-part-look-start Inv-loop μ-loop
+part-look-start c = search needs
+
+-- src/lib.rt:135:40
+part-look-end : tie.Need-part-look-end Inv-loop μ-loop
+part-look-end c = search needs
+
+-- src/lib.rt:135:13
+look-requires : tie.Need-look-requires Inv-loop μ-loop
+look-requires c κs = search needs
+
+-- src/lib.rt:136:13
+verdict-in-requires : tie.Need-verdict-in-requires Inv-loop μ-loop
+verdict-in-requires c κs = search needs
+
+-- src/lib.rt:137:9
+counted-requires : tie.Need-counted-requires Inv-loop μ-loop
+counted-requires c κs = search needs
+
+-- src/lib.rt:138:9
+add-i : tie.Need-add-i Inv-loop μ-loop
+add-i c = search needs
+
+-- src/lib.rt:140:22
+add-to : tie.Need-add-to Inv-loop μ-loop
+add-to c = omega (arith, room c)
+
+-- src/lib.rt:141:19
+sub-enter : tie.Need-sub-enter Inv-loop μ-loop
+sub-enter c = search needs
+
+-- src/lib.rt:141:19
+part-enter-start : tie.Need-part-enter-start Inv-loop μ-loop
+part-enter-start c = search needs
+
+-- src/lib.rt:141:19
+part-enter-end : tie.Need-part-enter-end Inv-loop μ-loop
+part-enter-end c = search needs
+
+-- src/lib.rt:141:38
+sub-enter-2 : tie.Need-sub-enter-2 Inv-loop μ-loop
+sub-enter-2 c = search needs
+
+-- src/lib.rt:141:38
+part-enter-start-2 : tie.Need-part-enter-start-2 Inv-loop μ-loop
+part-enter-start-2 c = search needs
+
+-- src/lib.rt:141:38
+part-enter-end-2 : tie.Need-part-enter-end-2 Inv-loop μ-loop
+part-enter-end-2 c = omega (arith, room (c .before))
+
+-- src/lib.rt:141:13
+enter-requires : tie.Need-enter-requires Inv-loop μ-loop
+enter-requires c κs =
+    let l = c .before .before .before .before .before in
+    (search needs, (search needs, subst (λ r. placeFor r < 256) (sym (seen l)) (outcomes.place-fits (cs l) (k l) (start (head l) .pre .0) (rec l))))
+
+-- src/lib.rt:131:5
+loop-less : tie.Need-loop-less Inv-loop μ-loop
+loop-less c = search needs
+
+-- src/lib.rt:131:5
+loop-again : tie.Need-loop-again Inv-loop μ-loop
+loop-again c =
+    let e = c .before .before .before .before in
+    let t = e .before .before .before in
+    let l = t .before .before .before in (
+      omega arith,
+      refl,
+      left-next e,
+      entries-next e,
+      omega (arith, needed-next t, head l .loop .inv .4),
+      tally-next (t .before),
+      c .before .before .before .run2 .given .1 ∙ head l .loop .inv .6,
+      c .before .journal .given .1 ∙ head l .loop .inv .7,
+    )
+
+-- src/lib.rt:131:5
+loop-less-2 : tie.Need-loop-less-2 Inv-loop μ-loop
+loop-less-2 c = search needs
+
+-- src/lib.rt:131:5
+loop-again-2 : tie.Need-loop-again-2 Inv-loop μ-loop
+loop-again-2 c =
+    let l = c .before .before .before in
+    let a = start (head l) .args in
+    let clean : verdictOf (cs l) (k l) (rec l) ≡ 0 = sym (verdict-seen (c .before .before)) ∙ c .if1 .left in (
+      omega arith,
+      refl,
+      head l .loop .inv .2 ∙ sym (record-kept recordSize (λ j. leftOf (cs l) (k l)) (λ j. outcomes.length-left (cs l) (k l)) (run₀ l) (at l) (fits l) (outcomes.clean-kept (cs l) (k l) (rec l) clean)),
+      head l .loop .inv .3 ∙ ap (λ p. over p (a .journal .now)) (sym (entries-clean recordSize (verdictOf (cs l) (k l)) (run₀ l) (at l) (entryOf (cs l) (k l)) (a .first) clean)),
+      omega (arith, needed-clean recordSize (verdictOf (cs l) (k l)) (run₀ l) (at l) clean, head l .loop .inv .4),
+      tally-next (c .before),
+      head l .loop .inv .6,
+      head l .loop .inv .7,
+    )
+
+-- src/lib.rt:118:1
+same-length : tie.Need-same-length Inv-loop μ-loop
+same-length c = search needs
+
+-- src/lib.rt:118:1
+same-length-2 : tie.Need-same-length-2 Inv-loop μ-loop
+same-length-2 c = search needs
+
+-- src/lib.rt:118:1
+returns : tie.Need-returns Inv-loop μ-loop
+returns c =
+    let l = c .before .loop in
+    let a = start (c .before) .args in
+    let run = a .run .now in
+    let size = outcomes.length-left (a .columns .now) (a .k) in
+    let e : l .i ≡ length run / recordSize = omega arith in
+    let p = start (c .before) .pre .1 .0 in
+    let done = length-left recordSize (λ j. leftOf (a .columns .now) (a .k)) (λ j. size) run (l .i) (omega arith) in (
+      rw (← e) (l .inv .5),
+      (
+        rw (← e) (l .inv .2 ∙ over-all (left (a .columns .now) (a .k) run (l .i)) run (omega arith)),
+        rw (← e) (l .inv .3),
+      ),
+    )
+
+pub pass-run-spec : {M : Type 1} → statement M
+pass-run-spec =
+    tie.close
+    (tie.spec
+    Inv-loop
+    μ-loop
+    new-requires
+    loop-holds
+    mul-at
+    add-end
+    add-number
+    cast-number
+    sub-look
+    part-look-start
+    part-look-end
+    look-requires
+    verdict-in-requires
+    counted-requires
+    add-i
+    add-to
+    sub-enter
+    part-enter-start
+    part-enter-end
+    sub-enter-2
+    part-enter-start-2
+    part-enter-end-2
+    enter-requires
+    loop-less
+    loop-again
+    loop-less-2
+    loop-again-2
+    same-length
+    same-length-2
+    returns)
