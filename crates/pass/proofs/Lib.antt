@@ -1,1 +1,3 @@
 pub mod Outcomes
+pub mod Cases
+pub mod Parts
