@@ -2,3 +2,4 @@ pub mod Outcomes
 pub mod Cases
 pub mod Parts
 pub mod Table
+pub mod Facts

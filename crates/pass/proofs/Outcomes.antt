@@ -1,6 +1,7 @@
 -- Laws of what a pass finds at a record and leaves there. Assumes nothing.
 use mathlib.Core.Path.{_≡_, refl, sym, ap, ap₂, _∙_}
 use mathlib.Core.Bool.{Bool, true, false, cond}
+use mathlib.Core.Logic.{_≢_, _⊎_, ⊎-elim}
 use mathlib.Core.List.{List}
 use Prim.Native.Nat.{ℕ, _+_, _*_, _-_, _≤_, _<_}
 use native.Mathlib.Omega.{arith}
@@ -9,12 +10,12 @@ use lib.Dec.{eqb, ltb}
 use lib.ListN.{length}
 use Rattle.columns.specs.Mix.{flip, placeIn}
 use Rattle.parity.specs.Odd.{oddOnes}
-use Rattle.record.specs.Layout.{recordSize, headSize, entrySize, dataIn, checkIn}
+use Rattle.record.specs.Layout.{recordSize, headSize, entrySize, recordBytes, dataIn, checkIn}
 use Rattle.record.proofs.Records.{length-record, length-entry}
 use Rattle.word.specs.declared.Reading.{Reading}
 use Rattle.word.specs.declared.Reading.the-variants.{Refused, Stray, Clean, Data, Check, Even, Odd}
 use Rattle.word.specs.Word.{strayIn}
-use Rattle.word.specs.Reading.{asRead, verdictOn, syndromeOf, readIn}
+use Rattle.word.specs.Reading.{asRead, verdictOn, syndromeOf, readIn, handedBack}
 use Rattle.pass.specs.Outcome.{verdictIn, placeFor, leftBy, entryBy, Columns, readingOf, verdictOf, leftOf, entryOf}
 
 -- ---- any reading
@@ -38,7 +39,7 @@ left-size (Check p w) rec e = length-record (w .«data») (w .check)
 left-size (Even w) rec e = e
 left-size (Odd w) rec e = e
 
-left-kept : (r : Reading) (rec : List ℕ) → (verdictIn r ≡ 1 → ⊥) → (verdictIn r ≡ 2 → ⊥) → leftBy r rec ≡ rec
+left-kept : (r : Reading) (rec : List ℕ) → verdictIn r ≢ 1 → verdictIn r ≢ 2 → leftBy r rec ≡ rec
 left-kept (Refused v) rec d c = refl
 left-kept Stray rec d c = refl
 left-kept (Clean w) rec d c = refl
@@ -46,6 +47,19 @@ left-kept (Data p w) rec d c = absurd (d refl)
 left-kept (Check p w) rec d c = absurd (c refl)
 left-kept (Even w) rec d c = refl
 left-kept (Odd w) rec d c = refl
+
+neither : (v : ℕ) → v ≢ 1 → v ≢ 2 → (v ≡ 1) ⊎ (v ≡ 2) → ⊥
+neither v d c = ⊎-elim d c
+
+-- and is mended to the word that is handed back where it is one of them
+left-mended : (r : Reading) (rec : List ℕ) → (verdictIn r ≡ 1) ⊎ (verdictIn r ≡ 2) → leftBy r rec ≡ recordBytes (handedBack r .«data») (handedBack r .check)
+left-mended (Refused v) rec h = absurd (neither 0 (omega arith) (omega arith) h)
+left-mended Stray rec h = absurd (neither 5 (omega arith) (omega arith) h)
+left-mended (Clean w) rec h = absurd (neither 0 (omega arith) (omega arith) h)
+left-mended (Data p w) rec h = refl
+left-mended (Check p w) rec h = refl
+left-mended (Even w) rec h = absurd (neither 3 (omega arith) (omega arith) h)
+left-mended (Odd w) rec h = absurd (neither 4 (omega arith) (omega arith) h)
 
 -- ---- a record under the n columns cs of a code with k data bits
 
@@ -65,9 +79,15 @@ module _ (cs : List ℕ) (k : ℕ) where
       ∙ ap₂ (λ x y. headSize + (x + y)) e (length-left rec e)
 
   -- only verdicts 1 and 2 are mended
-  pub kept : (rec : List ℕ) → (verdictOf cs k rec ≡ 1 → ⊥) → (verdictOf cs k rec ≡ 2 → ⊥) → leftOf cs k rec ≡ rec
+  pub kept : (rec : List ℕ) → verdictOf cs k rec ≢ 1 → verdictOf cs k rec ≢ 2 → leftOf cs k rec ≡ rec
   unfolding verdictOf leftOf
   kept rec d c = left-kept (readingOf cs k rec) rec d c
+
+  -- each to the word that its reading hands back
+  pub mended : (rec : List ℕ) → (verdictOf cs k rec ≡ 1) ⊎ (verdictOf cs k rec ≡ 2)
+      → leftOf cs k rec ≡ recordBytes (handedBack (readingOf cs k rec) .«data») (handedBack (readingOf cs k rec) .check)
+  unfolding verdictOf leftOf
+  mended rec h = left-mended (readingOf cs k rec) rec h
 
   pub clean-kept : (rec : List ℕ) → verdictOf cs k rec ≡ 0 → leftOf cs k rec ≡ rec
   clean-kept rec e = kept rec (λ d. omega (arith, e, d)) (λ c. omega (arith, e, c))

@@ -69,32 +69,43 @@ module _ (code : Code) (image : List ℕ) (a b : ℕ) (journal : List ℕ) where
       (λ e. true≢false (ap accepted (sym e) ∙ h), refl))
       (passes (judgeOf code))
 
-  -- a pass that is asked for in order, and the journal has room for the entries it needs
-  pub pass-done : Asked code image a b → entriesNeeded code image a b ≤ roomIn journal
-      → afterPass code image a b journal ≡ doneBy (matrixOf code) (code .k) image a b journal
-  pass-done q h =
-      pass-accepted code image a b journal (q .taken)
-      ∙ done (matrixOf code) (code .k) image a b journal (q .records .short) (q .records .whole) (q .run .rising) (q .run .within) h
+  -- the answer, the image and the journal where the answer is v
+  abbrev pub afterBy : Passed → After
+  afterBy (Refused v) = refusedBy (Refused v) image journal
+  afterBy BadImage = refusedBy BadImage image journal
+  afterBy BadRun = refusedBy BadRun image journal
+  afterBy (NoRoom n) = refusedBy (NoRoom n) image journal
+  afterBy (Done t) = doneBy (matrixOf code) (code .k) image a b journal
 
-  -- and where a row says so, that is the answer
-  pub says-pass : (v : Passed) → Says code image a b journal v → afterPass code image a b journal .answer ≡ v
-  says-pass (Refused v) s = ap (λ x. x .answer) (pass-refused code image a b journal v (sym (s .1)) (refuses v (s .0)))
-  says-pass BadImage s =
-      ap (λ x. x .answer)
-      (pass-accepted code image a b journal (s .0)
-      ∙ ⊎-elim (uneven (matrixOf code) (code .k) image a b journal) (too-long (matrixOf code) (code .k) image a b journal) (s .1))
-  says-pass BadRun s =
-      ap (λ x. x .answer)
-      (pass-accepted code image a b journal (s .0)
+  -- where a row says so, that is what the pass does
+  pub says-after : (v : Passed) → Says code image a b journal v → afterPass code image a b journal ≡ afterBy v
+  says-after (Refused v) s = pass-refused code image a b journal v (sym (s .1)) (refuses v (s .0))
+  says-after BadImage s =
+      pass-accepted code image a b journal (s .0)
+      ∙ ⊎-elim (uneven (matrixOf code) (code .k) image a b journal) (too-long (matrixOf code) (code .k) image a b journal) (s .1)
+  says-after BadRun s =
+      pass-accepted code image a b journal (s .0)
       ∙ ⊎-elim (turned (matrixOf code) (code .k) image a b journal (s .1 .short) (s .1 .whole))
-      (past (matrixOf code) (code .k) image a b journal (s .1 .short) (s .1 .whole)) (s .2))
-  says-pass (NoRoom n) s =
+      (past (matrixOf code) (code .k) image a b journal (s .1 .short) (s .1 .whole)) (s .2)
+  says-after (NoRoom n) s =
       let q = s .0 in
-      ap (λ x. x .answer)
-      (pass-accepted code image a b journal (q .taken)
-      ∙ no-room (matrixOf code) (code .k) image a b journal (q .records .short) (q .records .whole) (q .run .rising) (q .run .within) (rw (s .2) at (s .1)))
-      ∙ ap NoRoom (sym (s .2))
-  says-pass (Done t) s = ap (λ x. x .answer) (pass-done (s .0) (s .1)) ∙ ap Done (sym (s .2))
+      pass-accepted code image a b journal (q .taken)
+      ∙ no-room (matrixOf code) (code .k) image a b journal (q .records .short) (q .records .whole) (q .run .rising) (q .run .within) (rw (s .2) at (s .1))
+      ∙ ap (λ m. refusedBy (NoRoom m) image journal) (sym (s .2))
+  says-after (Done t) s =
+      let q = s .0 in
+      pass-accepted code image a b journal (q .taken)
+      ∙ done (matrixOf code) (code .k) image a b journal (q .records .short) (q .records .whole) (q .run .rising) (q .run .within) (s .1)
+
+  answered : (v : Passed) → Says code image a b journal v → afterBy v .answer ≡ v
+  answered (Refused v) s = refl
+  answered BadImage s = refl
+  answered BadRun s = refl
+  answered (NoRoom n) s = refl
+  answered (Done t) s = ap Done (sym (s .2))
+
+  pub says-pass : (v : Passed) → Says code image a b journal v → afterPass code image a b journal .answer ≡ v
+  says-pass v s = ap (λ x. x .answer) (says-after v s) ∙ answered v s
 
   -- THE TABLE for a pass: each answer exactly when its row says so and no earlier one
   pub pass-exactly : (v : Passed) → (afterPass code image a b journal .answer ≡ v) ↔ Says code image a b journal v
