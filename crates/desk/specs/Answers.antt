@@ -1,4 +1,5 @@
 -- What each exported function answers: document 01's numbers and values of the answer that its layer defines. Assumes nothing.
+use mathlib.Core.List.{List}
 use Prim.Native.Nat.{ℕ}
 use Rattle.code.specs.declared.Code.{Code}
 use Rattle.code.specs.Judge.{judgeOf}
@@ -12,6 +13,8 @@ use Rattle.explain.specs.Explanations.{explainedOf}
 use Rattle.explain.specs.Explanations as explaining
 use Rattle.cards.specs.Checking.{cardedOf}
 use Rattle.cards.specs.Checking as checking
+use Rattle.pass.specs.Pass.{afterPass}
+use Rattle.pass.specs.Pass as passing
 use Rattle.desk.specs.declared.CheckBits.{CheckBits}
 use Rattle.desk.specs.declared.Judgement.{Judgement}
 use Rattle.desk.specs.declared.RowBalance.{RowBalance}
@@ -19,6 +22,7 @@ use Rattle.desk.specs.declared.CheckWord.{CheckWord}
 use Rattle.desk.specs.declared.ReadWord.{ReadWord}
 use Rattle.desk.specs.declared.Listing.{Listing}
 use Rattle.desk.specs.declared.CardCheck.{CardCheck}
+use Rattle.desk.specs.declared.PassAnswer.{PassAnswer}
 
 abbrev pub checkBitsOf : ℕ → CheckBits
 checkBitsOf k = record { number = wantedNumber (wantedOf k); bits = wantedBits (wantedOf k) }
@@ -69,4 +73,13 @@ cardsOf code b =
       told = checking.toldOf (cardedOf code b);
       card = checking.cardOf (cardedOf code b);
       mask = checking.maskOf (cardedOf code b);
+    }
+
+-- over the run from a up to b; what image and journal hold afterwards is `afterPass` of crate pass
+abbrev pub passedOf : Code → List ℕ → ℕ → ℕ → List ℕ → PassAnswer
+passedOf code image a b journal =
+    record {
+      number = passing.numberOf (afterPass code image a b journal .answer);
+      told = passing.toldOf (afterPass code image a b journal .answer);
+      tally = passing.tallyIn (afterPass code image a b journal .answer);
     }

@@ -2,8 +2,10 @@
 ghost use mathlib.Core.Path.{_≡_};
 ghost use lib.ListN.{length};
 ghost use Rattle.explain.specs.Explanations.{listAfter};
-ghost use Rattle.desk.specs.Answers.{checkBitsOf, judgementOf, rowsOf, writtenOf, readOf, listingOf, cardsOf};
+ghost use Rattle.desk.specs.Answers.{checkBitsOf, judgementOf, rowsOf, writtenOf, readOf, listingOf, cardsOf, passedOf};
+ghost use Rattle.pass.specs.Pass.{afterPass};
 use code::Code;
+use record::Tally;
 use word::Word;
 
 // Check bits wanted: the number, and the check bits where it is 0.
@@ -156,5 +158,33 @@ pub extern "C" fn desk_cards(code: Code, b: usize) -> CardCheck
         told: cards::told_of(answer),
         card: cards::card_of(answer),
         mask: cards::mask_of(answer),
+    }
+}
+
+// A pass over the records of an image from `start` up to `end`: the tally, all zero where it is refused.
+#[repr(C)]
+pub struct PassAnswer {
+    pub number: usize,
+    pub told: usize,
+    pub tally: Tally,
+}
+
+#[no_mangle]
+pub extern "C" fn desk_pass(
+    code: Code,
+    image: &mut [u8],
+    start: usize,
+    end: usize,
+    journal: &mut [u8],
+) -> PassAnswer
+    ensures { λ a. ⌜ a ≡ passedOf code (now (image .entry)) start end (now (journal .entry)) ⌝ }
+    ensures { λ _. ⌜ now (image .exit) ≡ afterPass code (now (image .entry)) start end (now (journal .entry)) .image ⌝ }
+    ensures { λ _. ⌜ now (journal .exit) ≡ afterPass code (now (image .entry)) start end (now (journal .entry)) .journal ⌝ }
+{
+    let answer = pass::pass(code, image, start, end, journal);
+    PassAnswer {
+        number: pass::number_of(answer),
+        told: pass::told_of(answer),
+        tally: pass::tally_of(answer),
     }
 }

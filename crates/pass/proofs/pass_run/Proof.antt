@@ -109,8 +109,12 @@ room : (c : tie.Then1 Inv-loop μ-loop)
     → let l = c .before .before .before in head l .loop .used + entrySize ≤ length (start (head l) .args .journal .now)
 room c =
     let l = c .before .before .before in
-    omega (arith, needed-next c, start (head l) .pre .1 .1 .1,
-    sum-mono recordSize (unclean (verdictOf (cs l) (k l))) (run₀ l) (at l + 1) (length (run₀ l) / recordSize) (omega arith))
+    omega (
+      arith,
+      needed-next c,
+      start (head l) .pre .1 .1 .1,
+      sum-mono recordSize (unclean (verdictOf (cs l) (k l))) (run₀ l) (at l + 1) (length (run₀ l) / recordSize) (omega arith),
+    )
 
 -- the run with the record as it is left, and the journal with its entry
 left-next : (c : tie.After-enter Inv-loop μ-loop)
