@@ -11,7 +11,7 @@ use Rattle.code.specs.declared.Judged.{Judged}
 use Rattle.code.specs.declared.Judged.the-variants.{Accepted}
 use Rattle.code.specs.Judge.{judgeOf, accepted}
 use Rattle.code.specs.Rule.{matrixOf}
-use Rattle.code.proofs.Table.{passes}
+use Rattle.code.proofs.Answers.{passes}
 use Rattle.cards.specs.declared.Found.{Found}
 use Rattle.cards.specs.declared.Found.the-variants.{Nothing, At}
 use Rattle.cards.specs.declared.Carded.{Carded}

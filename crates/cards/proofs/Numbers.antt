@@ -15,17 +15,8 @@ use Rattle.cards.specs.Cards.{cardAt}
 use Rattle.cards.specs.Rule.{CardProof, FirstWeak}
 use Rattle.cards.specs.Checking.{cardedOf, numberOf, toldOf, cardOf, maskOf, CardSize, Says}
 use Rattle.cards.proofs.Masks.{flagged-kept}
+use Rattle.code.proofs.Answers.{refused-number}
 use Rattle.cards.proofs.Checking.{card-exactly}
-
--- a refused code has a number from 1 to 6
-refused-number : (v : Judged) → v ≢ Accepted → (1 ≤ judge.numberOf v) × (judge.numberOf v ≤ 6)
-refused-number Accepted n = absurd (n refl)
-refused-number NoData n = (omega arith, omega arith)
-refused-number NoChecks n = (omega arith, omega arith)
-refused-number (TooWide i) n = (omega arith, omega arith)
-refused-number (EvenColumn i) n = (omega arith, omega arith)
-refused-number (SingleOne i) n = (omega arith, omega arith)
-refused-number (Repeated i) n = (omega arith, omega arith)
 
 module _ (code : Code) (b : ℕ) where
   abbrev answer : Carded

@@ -11,7 +11,7 @@ use Rattle.code.proofs.Judged.{the-type}
 use Rattle.code.specs.declared.Judged.{Judged}
 use Rattle.code.specs.declared.Judged.the-variants.{Accepted, NoData, NoChecks, TooWide, EvenColumn, SingleOne, Repeated}
 use Rattle.code.specs.Judge.{orElse, judgeColumn, judgeFrom, accepted}
-use Rattle.code.proofs.Table.{refuses}
+use Rattle.code.proofs.Answers.{refuses}
 
 -- the columns from place i on: the one at i, and if that is accepted those after it
 pub from-step : (columns : List ℕ) (r n i : ℕ) → i < n

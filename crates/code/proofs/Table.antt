@@ -19,26 +19,7 @@ use Rattle.code.specs.declared.Judged.the-variants.{Accepted, NoData, No
 use Rattle.code.specs.Judge.{judgeColumn, orElse, judgeFrom, judgeColumns, judgeIn, accepted}
 use Rattle.code.specs.Rule.{Wide, Even, Single, Again, Fine, Lowest, Sized, Limits, Sound, SaysOfColumns, Says}
 use Rattle.code.proofs.Rule.{rule-of, fine-of}
-
--- an answer that refuses decides
-pub refuses : (v b : Judged) → accepted v ≡ false → orElse v b ≡ v
-refuses Accepted b n = absurd (true≢false n)
-refuses NoData b n = refl
-refuses NoChecks b n = refl
-refuses (TooWide i) b n = refl
-refuses (EvenColumn i) b n = refl
-refuses (SingleOne i) b n = refl
-refuses (Repeated i) b n = refl
-
--- an acceptance, or not
-pub passes : (v : Judged) → (v ≡ Accepted) ⊎ (accepted v ≡ false)
-passes Accepted = inl refl
-passes NoData = inr refl
-passes NoChecks = inr refl
-passes (TooWide i) = inr refl
-passes (EvenColumn i) = inr refl
-passes (SingleOne i) = inr refl
-passes (Repeated i) = inr refl
+use Rattle.code.proofs.Answers.{refuses, passes}
 
 -- ---- one column
 

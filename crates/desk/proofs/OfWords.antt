@@ -35,7 +35,8 @@ use Rattle.desk.specs.declared.ReadWord.{ReadWord}
 use Rattle.desk.specs.Answers.{writtenOf, readOf}
 use Rattle.desk.specs.Definitions.{Accepted, placesOf, Unstrayed, read, handedBack}
 use Rattle.desk.specs.Demands as demands
-use Rattle.desk.proofs.Codes.{zero-accepts, refused-test, taken-of}
+use Rattle.code.proofs.Answers.{zero-accepts, refused-test}
+use Rattle.desk.proofs.Codes.{taken-of}
 use Rattle.desk.proofs.Words.{is-clean, is-data, is-check, is-even, is-odd, is-answered, whole, row, reads-clean, clean-of}
 
 -- ---- writing and reading one word

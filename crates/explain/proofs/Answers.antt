@@ -12,7 +12,7 @@ use Rattle.code.specs.declared.Code.{Code}
 use Rattle.code.specs.declared.Judged.{Judged}
 use Rattle.code.specs.declared.Judged.the-variants.{Accepted}
 use Rattle.code.specs.Judge.{judgeOf, accepted}
-use Rattle.code.proofs.Table.{passes}
+use Rattle.code.proofs.Answers.{passes}
 use Rattle.word.specs.Word.{strays, strayIn}
 use Rattle.word.specs.Verdicts.{placesOf}
 use Rattle.record.specs.Run.{over}

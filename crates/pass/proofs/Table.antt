@@ -16,7 +16,7 @@ use Rattle.code.specs.declared.Judged.the-variants.{Accepted, NoData, NoChecks,
 use Rattle.code.specs.Judge.{judgeOf, accepted}
 use Rattle.code.specs.Judge as judge
 use Rattle.code.specs.Rule.{matrixOf}
-use Rattle.code.proofs.Table.{passes}
+use Rattle.code.proofs.Answers.{passes}
 use Rattle.pass.specs.declared.Passed.{Passed}
 use Rattle.pass.specs.declared.Passed.the-variants.{Refused, BadImage, BadRun, NoRoom, Done}
 use Rattle.pass.specs.Pass.{After, refusedBy, doneBy, neededRun, tallyRun, recordsIn, roomIn, passIn, afterPass, numberOf, tallyIn}
