@@ -1,15 +1,14 @@
 -- Each answer exactly when its row of the table says so and no earlier one; and what it leaves of the lent list. Assumes nothing.
 use mathlib.Core.Path.{_≡_, refl, sym, ap, subst, _∙_}
-use mathlib.Core.Logic.{_⊎_, inl, inr, ⊎-elim, _↔_}
+use mathlib.Core.Logic.{inl, inr, ⊎-elim, _↔_}
 use mathlib.Core.Bool.{Bool, true, false, cond, _||_, or-true, true≢false}
 use mathlib.Core.List.{List}
-use Prim.Native.Nat.{ℕ, _+_, _-_, _^_, _≤_, _<_}
+use Prim.Native.Nat.{ℕ, _-_, _^_, _≤_, _<_}
 use native.Mathlib.Omega.{arith}
 use borrow.Author.Tests.{ltb-true, ltb-false, leb-true, leb-false, le-leb, lt-leb}
-use lib.Dec.{ltb, leb}
+use lib.Dec.{ltb}
 use lib.ListN.{length}
 use Rattle.code.specs.declared.Code.{Code}
-use Rattle.code.specs.declared.Judged.{Judged}
 use Rattle.code.specs.declared.Judged.the-variants.{Accepted}
 use Rattle.code.specs.Judge.{judgeOf, accepted}
 use Rattle.code.proofs.Answers.{passes}

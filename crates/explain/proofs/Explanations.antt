@@ -1,17 +1,17 @@
 -- The explanations of a word are the list by its syndrome; so which sets they are, in which order, how many, and what they are after flips.
 -- For any accepted code and any word without stray bits. Assumes nothing.
 use mathlib.Core.Path.{_≡_, refl, sym, ap, ap₂, _∙_}
-use mathlib.Core.Logic.{_≢_, ⊎-elim, _↔_}
+use mathlib.Core.Logic.{_≢_, _↔_}
 use mathlib.Core.Bool.{Bool, true, false, cond}
 use mathlib.Core.List.{List, [], _∷_, List·Memᴰ}
-use Prim.Native.Nat.{ℕ, _+_, _*_, _^_, _≤_, _<_, min, max}
+use Prim.Native.Nat.{ℕ, _*_, _^_, _≤_, _<_, min, max}
 use native.Mathlib.Omega.{arith}
-use borrow.Author.Tests.{eq-eqb, eqb-true}
 use lib.Dec.{eqb, ltb}
 use lib.ListN.{length, getD, take}
 use Rattle.parity.specs.Odd.{oddOnes}
-use Rattle.parity.proofs.Ones.{parity-of-ones, below-or-not}
-use Rattle.columns.specs.Mix.{mix, flip, placeIn}
+use Rattle.parity.proofs.Ones.{parity-of-ones}
+use Rattle.columns.specs.Mix.{flip, placeIn}
+use Rattle.columns.proofs.Words.{flip-lt}
 use Rattle.code.specs.declared.Code.{Code}
 use Rattle.code.specs.Rule.{matrixOf, AcceptedCode}
 use Rattle.word.specs.declared.Word.{Word}
@@ -22,15 +22,14 @@ use Rattle.word.specs.Verdicts.{placesOf, Unstrayed, ReadsClean, syndrome}
 use Rattle.word.proofs.Syndromes.{syndrome-mix}
 use Rattle.word.proofs.Verdicts.{sound, data-size, size, good, reads, clean-zero}
 use Rattle.word.proofs.Mending.{flip-fits, whole-fits}
-use Rattle.explain.specs.Sets.{flipAll, setsUpTo, those}
+use Rattle.explain.specs.Sets.{flipAll, setsUpTo}
 use Rattle.explain.specs.Order.{SetOf, InOrder}
 use Rattle.explain.specs.BySyndrome.{clears, clearing, bySyndrome}
 use Rattle.explain.specs.Explanations.{isClean, explains, explanations, explanationsOf}
-use Rattle.explain.proofs.Sets.{explained, those-same, sets-in}
-use Rattle.explain.proofs.Flips.{flip-all-lt, flip-all-twice, flip-past}
+use Rattle.explain.proofs.Sets.{those-same, sets-in}
+use Rattle.explain.proofs.Flips.{flip-all-lt, lower-first}
 use Rattle.explain.proofs.Heart.{heart}
-use Rattle.explain.proofs.Facts.{listed-in-order, listed-few, clean-listed, one-flip-listed}
-use Rattle.explain.proofs.Order.{each-once}
+use Rattle.explain.proofs.Facts.{listed-exactly, listed-in-order, listed-once, listed-few, listed-most, flips-listed, two-flips-listed, clean-listed, one-flip-listed}
 
 -- of the table of verdicts only its first row is clean
 only-clean : (z d c e : Bool) (p q : ℕ) (x y w : Word) → isClean (cond z (Clean w) (cond d (Data p x) (cond c (Check q y) (cond e (Even w) (Odd w))))) ≡ z
@@ -74,21 +73,16 @@ module _ (code : Code) (taken : AcceptedCode code) where
 
     -- EXPLAINED EXACTLY: a set is listed exactly when it is one of at most `limit` places and flipping exactly those gives a word that reads clean
     pub explained-exactly : (limit : ℕ) (ps : List ℕ) → List·Memᴰ ps (explanations code w limit) ↔ (SetOf (placesOf code) limit ps × ReadsClean code (flipAll w ps))
-    unfolding explanations
     explained-exactly limit ps =
-        let e = explained (explains code w) (placesOf code) limit ps in (
-          λ m. let s = e .0 m in (s .0, reads-clean (s .0) .0 (s .1)),
-          λ s. e .1 (s .0, reads-clean (s .0) .1 (s .1)),
+        let e = listed-exactly (matrixOf code) w limit ps in (
+          λ m.
+              let s = e .0 (rw (as-clearing limit) at m) in
+              let t = rw (size code taken) at (s .0) in
+              (t, clean-zero code taken (flipAll w ps) (set-fits limit ps t) .1 (s .1)),
+          λ s.
+              rw (as-clearing limit)
+              (e .1 (rw (size code taken) (s .0), clean-zero code taken (flipAll w ps) (set-fits limit ps (s .0)) .0 (s .1))),
         )
-      where
-        reads-clean : SetOf (placesOf code) limit ps → (explains code w ps ≡ true) ↔ ReadsClean code (flipAll w ps)
-        reads-clean s =
-            let f = set-fits limit ps s in
-            let z = clean-zero code taken (flipAll w ps) f in
-            let t = clean-test (flipAll w ps) f in (
-              λ e. z .1 (eqb-true (syndrome code (flipAll w ps)) 0 (sym t ∙ e)),
-              λ c. t ∙ eq-eqb (syndrome code (flipAll w ps)) 0 (z .0 c),
-            )
 
     module _ (limit : ℕ) (h : limit ≤ 2) where
       -- in document 01's order
@@ -98,7 +92,7 @@ module _ (code : Code) (taken : AcceptedCode code) where
       -- each set once
       pub explained-once : (i j : ℕ) → i < length (explanations code w limit) → j < length (explanations code w limit)
           → getD (explanations code w limit) i [] ≡ getD (explanations code w limit) j [] → i ≡ j
-      explained-once = each-once (explanations code w limit) explained-in-order
+      explained-once = rw (as-clearing limit) (listed-once (good code taken) parity-of-ones w limit h)
 
       -- at most half as many as there are places, so at most 40
       pub explained-few : 2 * length (explanations code w limit) ≤ placesOf code
@@ -108,7 +102,11 @@ module _ (code : Code) (taken : AcceptedCode code) where
           (listed-few (good code taken) parity-of-ones w limit h (omega (arith, size code taken, l .sized .some, l .least)))
 
       pub explained-most : length (explanations code w limit) ≤ 40
-      explained-most = let l = sound code taken .limits in omega (arith, explained-few, l .sized .few, l .top)
+      explained-most =
+          let l = sound code taken .limits in
+          rw (as-clearing limit)
+          (listed-most (good code taken) parity-of-ones w limit h 40 (omega (arith, size code taken, l .sized .some, l .least))
+          (omega (arith, size code taken, l .sized .few, l .top)))
 
 -- of a word in its two parts: the list that is put from the columns and the syndrome
 pub as-put : (code : Code) → AcceptedCode code → (low high limit : ℕ) → low < 2 ^ code .k → high < 2 ^ code .r → limit ≤ 2 → (cs : List ℕ) (s : ℕ)
@@ -121,37 +119,28 @@ as-put code taken low high limit l h few cs s e f =
 -- ---- from a clean word
 
 module _ (code : Code) (taken : AcceptedCode code) (w : ℕ) (fits : Unstrayed code w) (clean : ReadsClean code w) where
+  no-syndrome : syndrome code w ≡ 0
+  no-syndrome = clean-zero code taken w fits .0 clean
+
   -- after the flips of a set, that set is listed
   pub flips-explained : (limit : ℕ) (ps : List ℕ) → SetOf (placesOf code) limit ps → List·Memᴰ ps (explanations code (flipAll w ps) limit)
   flips-explained limit ps s =
-      explained-exactly code taken (flipAll w ps) (set-fits code taken w fits limit ps s) limit ps .1 (s, rw (flip-all-twice w ps) clean)
+      rw (as-clearing code taken (flipAll w ps) (set-fits code taken w fits limit ps s) limit)
+      (flips-listed (matrixOf code) w limit ps no-syndrome (rw (size code taken) s))
 
   -- after two, whichever came first, that pair
   pub two-flips-explained : (p q : ℕ) → p < placesOf code → q < placesOf code → p ≢ q → List·Memᴰ (min p q ∷ max p q ∷ []) (explanations code (flip (flip w p) q) 2)
-  unfolding flipAll
   two-flips-explained p q h l ne =
-      rw (lower-first p q) (flips-explained 2 (min p q ∷ max p q ∷ []) (record { rising = (omega arith, omega arith, (omega arith, omega arith, tt)); few = omega arith }))
-    where
-      lower-first : (p q : ℕ) → flip (flip w p) q ≡ flip (flip w (min p q)) (max p q)
-      lower-first p q =
-          ⊎-elim
-          (λ (b : p < q).
-          let i : p ≡ min p q = omega arith in
-          let j : q ≡ max p q = omega arith in
-          ap₂ (λ (x y : ℕ). flip (flip w x) y) i j)
-          (λ (b : q ≤ p).
-          let i : q ≡ min p q = omega arith in
-          let j : p ≡ max p q = omega arith in
-          flip-past w p (q ∷ []) ∙ ap₂ (λ (x y : ℕ). flip (flip w x) y) i j)
-          (below-or-not p q)
+      rw (as-clearing code taken (flip (flip w p) q) (flip-lt (placesOf code) (flip w p) q (flip-fits code taken w fits p h) l) 2, lower-first w p q)
+      (two-flips-listed (matrixOf code) w (min p q) (max p q) no-syndrome (omega arith) (omega (arith, size code taken)))
 
   module _ (limit : ℕ) (h : limit ≤ 2) where
     -- with no flip: the empty set alone
     pub clean-explained : explanations code w limit ≡ [] ∷ []
-    clean-explained = as-clearing code taken w fits limit ∙ clean-listed (good code taken) parity-of-ones w limit h (clean-zero code taken w fits .0 clean)
+    clean-explained = as-clearing code taken w fits limit ∙ clean-listed (good code taken) parity-of-ones w limit h no-syndrome
 
     -- after one: that place alone
     pub one-flip-explained : (p : ℕ) → p < placesOf code → 1 ≤ limit → explanations code (flip w p) limit ≡ (p ∷ []) ∷ []
     one-flip-explained p l m =
         as-clearing code taken (flip w p) (flip-fits code taken w fits p l) limit
-        ∙ one-flip-listed (good code taken) parity-of-ones w limit h p (clean-zero code taken w fits .0 clean) (omega (arith, size code taken)) m
+        ∙ one-flip-listed (good code taken) parity-of-ones w limit h p no-syndrome (omega (arith, size code taken)) m

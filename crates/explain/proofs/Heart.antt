@@ -17,9 +17,8 @@ use Rattle.columns.proofs.Linear.{mix-flip}
 use Rattle.columns.proofs.Errors.{column-nonzero}
 use Rattle.columns.proofs.Places.{place-none}
 use Rattle.explain.specs.Sets.{flipAll, chosen, setsUpTo, those}
-use Rattle.explain.specs.Order.{SetOf}
 use Rattle.explain.specs.BySyndrome.{clears, clearing, placeFrom, partnerOf, pairAt, pairsFrom, pairsBy, bySyndrome}
-use Rattle.explain.proofs.Sets.{those-append, those-map, those-same, sets-in}
+use Rattle.explain.proofs.Sets.{those-append, those-map}
 use Rattle.explain.proofs.Partners.{from-zero, from-here, from-next, from-hit, from-least, partner-pair, zero-no-pair, column-no-pair}
 
 -- the first place from p on whose column is s, alone, where there is one
@@ -154,9 +153,3 @@ module _ {odd : ℕ → ℕ} {cs : List ℕ} (g : Good odd cs) (o : Parity odd) 
       ∙ first-of (eqb (mix cs w) 0) (ltb (placeIn cs (mix cs w)) (length cs)) (placeIn cs (mix cs w) ∷ []) (pairsBy cs (mix cs w)) (zero-no-column (mix cs w))
       (zero-no-pairs (mix cs w)) (column-no-pairs (mix cs w))
   heart w (suc (suc (suc limit))) h = absurd (omega arith)
-
-  -- for any test that asks the same of the sets that there are
-  pub heart-by : (t : List ℕ → Bool) (w limit : ℕ) → limit ≤ 2 → ((ps : List ℕ) → SetOf (length cs) limit ps → t ps ≡ clears cs w ps)
-      → those t (setsUpTo (length cs) limit) ≡ bySyndrome cs (mix cs w) limit
-  heart-by t w limit h same =
-      those-same t (clears cs w) (setsUpTo (length cs) limit) (λ ps m. same ps (sets-in (length cs) limit ps m)) ∙ heart w limit h

@@ -9,3 +9,4 @@ pub mod Facts
 pub mod Walk
 pub mod Explanations
 pub mod Answers
+pub mod Lists
