@@ -81,3 +81,35 @@ module _ (code : Code) (image : List ℕ) (a b : ℕ) (journal : List ℕ) where
       go BadRun x f s e = inr (λ z. omega (arith, ap numberOf f, z), ap tallyIn f, ap (λ y. y .image) e, ap (λ y. y .journal) e)
       go (NoRoom n) x f s e = inr (λ z. omega (arith, ap numberOf f, z), ap tallyIn f, ap (λ y. y .image) e, ap (λ y. y .journal) e)
       go (Done t) x f s e = inl e
+
+-- ---- a done pass
+
+module _ (code : Code) (image : List ℕ) (a b : ℕ) (journal : List ℕ) (t : Tally) (e : afterPass code image a b journal .answer ≡ Done t) where
+  pub says-done : Says code image a b journal (Done t)
+  says-done = pass-exactly code image a b journal (Done t) .0 e
+
+  pub done-is : afterPass code image a b journal ≡ doneBy (matrixOf code) (code .k) image a b journal
+  done-is = says-after code image a b journal (Done t) says-done
+
+  pub rising : a ≤ b
+  rising = says-done .0 .run .rising
+
+  pub fits : b * recordSize ≤ length image
+  fits = omega (arith, says-done .0 .run .within)
+
+  -- the image before the run, and the image after it, stay
+  pub before-stays : take (a * recordSize) (afterPass code image a b journal .image) ≡ take (a * recordSize) image
+  before-stays = ap (λ x. take (a * recordSize) (x .image)) done-is ∙ runs.before-stays recordSize (λ i. leftOf (matrixOf code) (code .k)) (λ i. length-left (matrixOf code) (code .k)) image a b rising fits
+
+  pub after-stays : drop (b * recordSize) (afterPass code image a b journal .image) ≡ drop (b * recordSize) image
+  after-stays = ap (λ x. drop (b * recordSize) (x .image)) done-is ∙ runs.after-stays recordSize (λ i. leftOf (matrixOf code) (code .k)) (λ i. length-left (matrixOf code) (code .k)) image a b rising fits
+
+  pub length-image : length (afterPass code image a b journal .image) ≡ length image
+  length-image = ap (λ x. length (x .image)) done-is ∙ runs.length-overRun recordSize (λ i. leftOf (matrixOf code) (code .k)) (λ i. length-left (matrixOf code) (code .k)) image a b rising fits
+
+  -- each record of the run is as its reading leaves it
+  pub record-left : (i : ℕ) → a ≤ i → i < b
+      → recordAt recordSize (afterPass code image a b journal .image) i ≡ leftOf (matrixOf code) (code .k) (recordAt recordSize image i)
+  record-left i l u =
+      ap (λ x. recordAt recordSize (x .image) i) done-is
+      ∙ runs.record-within recordSize (λ i. leftOf (matrixOf code) (code .k)) (λ i. length-left (matrixOf code) (code .k)) image a b rising fits i l u

@@ -2,4 +2,5 @@ pub mod Outcomes
 pub mod Cases
 pub mod Parts
 pub mod Table
+pub mod Entries
 pub mod Facts
