@@ -19,8 +19,8 @@ use Rattle.code.specs.Rule.{matrixOf}
 use Rattle.code.proofs.Answers.{passes}
 use Rattle.pass.specs.declared.Passed.{Passed}
 use Rattle.pass.specs.declared.Passed.the-variants.{Refused, BadImage, BadRun, NoRoom, Done}
-use Rattle.pass.specs.Pass.{After, refusedBy, doneBy, neededRun, tallyRun, recordsIn, roomIn, passIn, afterPass, numberOf, tallyIn}
-use Rattle.pass.specs.Says.{Image, Run, Asked, entriesNeeded, Says}
+use Rattle.pass.specs.Pass.{After, refusedBy, doneBy, recordsIn, roomIn, passIn, afterPass, entriesNeeded}
+use Rattle.pass.specs.Says.{Asked, Says}
 use Rattle.pass.proofs.Cases.{too-long, uneven, turned, past, no-room, done, pass-refused, pass-accepted}
 
 refuses : (v : Judged) → v ≢ Accepted → accepted v ≡ false

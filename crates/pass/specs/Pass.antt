@@ -7,16 +7,17 @@ use lib.Dec.{eqb, ltb}
 use lib.ListN.{length}
 use Rattle.record.specs.declared.Tally.{Tally}
 use Rattle.record.specs.Layout.{recordSize, entrySize, imageLimit}
-use Rattle.record.specs.Run.{over, gatherRun, overRun, sumRun}
+use Rattle.record.specs.Run.{recordAt, over, gatherRun, overRun, sumRun}
 use Rattle.record.specs.Tally.{tallyBy, none, oneIf}
 use Rattle.record.specs.Journal.{unclean, noted}
 use Rattle.code.specs.declared.Code.{Code}
 use Rattle.code.specs.Judge.{judgeOf, accepted}
 use Rattle.code.specs.Judge as judge
 use Rattle.code.specs.Rule.{matrixOf}
+use Rattle.word.specs.declared.Reading.{Reading}
 use Rattle.pass.specs.declared.Passed.{Passed}
 use Rattle.pass.specs.declared.Passed.the-variants.{Refused, BadImage, BadRun, NoRoom, Done}
-use Rattle.pass.specs.Outcome.{verdictOf, leftOf, entryOf}
+use Rattle.pass.specs.Outcome.{readingOf, verdictOf, leftOf, entryOf}
 
 -- ---- the run's records, under the n columns cs of a code with k data bits
 
@@ -76,6 +77,17 @@ passIn cs k image a b journal =
 unfoldable pub afterPass : Code → List ℕ → ℕ → ℕ → List ℕ → After
 afterPass code image a b journal =
     cond (accepted (judgeOf code)) (passIn (matrixOf code) (code .k) image a b journal) (refusedBy (Refused (judgeOf code)) image journal)
+
+-- ---- what reading the record i of an image says under a code, and how many entries the run from a up to b needs
+
+abbrev pub readingAt : Code → List ℕ → ℕ → Reading
+readingAt code image i = readingOf (matrixOf code) (code .k) (recordAt recordSize image i)
+
+abbrev pub verdictAt : Code → List ℕ → ℕ → ℕ
+verdictAt code image i = verdictOf (matrixOf code) (code .k) (recordAt recordSize image i)
+
+abbrev pub entriesNeeded : Code → List ℕ → ℕ → ℕ → ℕ
+entriesNeeded code image a b = neededRun (matrixOf code) (code .k) image a b
 
 -- ---- document 01's number for each answer, what is told with it, and the tally: all zero in a refused pass
 
