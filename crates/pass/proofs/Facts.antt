@@ -1,7 +1,7 @@
 -- What a pass changes and what it leaves: a refused one nothing, a done one the mended records of its run and the journal's first entries.
 -- Assumes nothing.
 use mathlib.Core.Path.{_≡_, refl, sym, ap, ap₂, _∙_}
-use mathlib.Core.Logic.{_≢_, _⊎_, inl, inr}
+use mathlib.Core.Logic.{_≢_, _⊎_, inl, inr, ⊎-elim}
 use mathlib.Core.List.{List}
 use Prim.Native.Nat.{ℕ, _+_, _*_, _-_, _≤_, _<_}
 use native.Mathlib.Omega.{arith}
@@ -202,3 +202,28 @@ module _ (code : Code) (image : List ℕ) (a b : ℕ) (journal : List ℕ) (t : 
 
   pub five-add-up : entriesNeeded code image a b ≡ t .«data» + t .check + t .even + t .odd + t .stray
   five-add-up = rw tally-is (five-counts (matrixOf code) (code .k) image a b rising fits)
+
+-- ---- a pass with any answer: bytes outside the run stay, and image and journal keep their lengths
+
+module _ (code : Code) (image : List ℕ) (a b : ℕ) (journal : List ℕ) where
+  -- what a refused pass keeps, and a done one
+  either : (P : After → Type 0) → ((t : Tally) → afterPass code image a b journal .answer ≡ Done t → P (afterPass code image a b journal))
+      → ((x : After) → x .image ≡ image → x .journal ≡ journal → P x) → P (afterPass code image a b journal)
+  either P done refused =
+      ⊎-elim
+      (λ x. done (tallyRun (matrixOf code) (code .k) image a b) (ap (λ y. y .answer) x))
+      (λ x. refused (afterPass code image a b journal) (x .2) (x .3))
+      (done-or-refused code image a b journal)
+
+  pub outside-before : take (a * recordSize) (afterPass code image a b journal .image) ≡ take (a * recordSize) image
+  outside-before =
+      either (λ x. take (a * recordSize) (x .image) ≡ take (a * recordSize) image) (before-stays code image a b journal) (λ x e f. ap (take (a * recordSize)) e)
+
+  pub outside-after : drop (b * recordSize) (afterPass code image a b journal .image) ≡ drop (b * recordSize) image
+  outside-after =
+      either (λ x. drop (b * recordSize) (x .image) ≡ drop (b * recordSize) image) (after-stays code image a b journal) (λ x e f. ap (drop (b * recordSize)) e)
+
+  pub same-length : (length (afterPass code image a b journal .image) ≡ length image) × (length (afterPass code image a b journal .journal) ≡ length journal)
+  same-length =
+      either (λ x. (length (x .image) ≡ length image) × (length (x .journal) ≡ length journal))
+      (λ t e. (length-image code image a b journal t e, length-journal code image a b journal t e)) (λ x e f. (ap length e, ap length f))
