@@ -4,3 +4,4 @@ pub mod Parts
 pub mod Table
 pub mod Entries
 pub mod Facts
+pub mod Mended

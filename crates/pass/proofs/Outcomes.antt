@@ -48,7 +48,7 @@ left-kept (Check p w) rec d c = absurd (c refl)
 left-kept (Even w) rec d c = refl
 left-kept (Odd w) rec d c = refl
 
-neither : (v : ℕ) → v ≢ 1 → v ≢ 2 → (v ≡ 1) ⊎ (v ≡ 2) → ⊥
+pub neither : (v : ℕ) → v ≢ 1 → v ≢ 2 → (v ≡ 1) ⊎ (v ≡ 2) → ⊥
 neither v d c = ⊎-elim d c
 
 -- and is mended to the word that is handed back where it is one of them
