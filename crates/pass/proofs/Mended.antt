@@ -1,12 +1,12 @@
 -- A record that was mended reads clean; any other stays and reads as before. For any accepted code. Assumes nothing.
 use mathlib.Core.Path.{_≡_, refl, sym, ap, ap₂, subst, _∙_}
 use mathlib.Core.Bool.{Bool, true, false, cond, _||_}
-use mathlib.Core.Logic.{_≢_, _⊎_, ⊎-elim}
+use mathlib.Core.Logic.{_≢_, _⊎_, inl, inr}
 use mathlib.Core.List.{List}
 use Prim.Native.Nat.{ℕ, _+_, _-_, _^_, _≤_, _<_}
 use native.Mathlib.Omega.{arith}
-use borrow.Author.Tests.{leb-false}
-use lib.Dec.{leb}
+use borrow.Author.Tests.{leb-false, eqb-true, eqb-false}
+use lib.Dec.{eqb, leb}
 use lib.ListN.{length}
 use lib.Pow.{pow-mono}
 use Rattle.columns.specs.Mix.{flip}
@@ -26,7 +26,17 @@ use Rattle.word.proofs.Syndromes.{data-fits, check-fits}
 use Rattle.word.proofs.Verdicts.{sound, size, reading-exactly}
 use Rattle.word.proofs.Mending.{whole-fits, read-whole, flip-fits, data-mended, check-mended}
 use Rattle.pass.specs.Outcome.{verdictIn, leftBy, readingOf, verdictOf, leftOf}
+use Rattle.pass.specs.Twice.{verdictAgain}
 use Rattle.pass.proofs.Outcomes.{neither, kept}
+
+-- no record is mended twice
+never : (v : ℕ) → (verdictAgain v ≢ 1) × (verdictAgain v ≢ 2)
+never v = go (eqb v 1) (eqb v 2) refl refl
+  where
+    go : (x y : Bool) → eqb v 1 ≡ x → eqb v 2 ≡ y → (cond (x || y) 0 v ≢ 1) × (cond (x || y) 0 v ≢ 2)
+    go true y hx hy = omega arith
+    go false true hx hy = omega arith
+    go false false hx hy = (eqb-false v 1 hx, eqb-false v 2 hy)
 
 module _ (code : Code) (taken : AcceptedCode code) where
   -- a pass reads a record as the desk reads the word it says
@@ -103,3 +113,20 @@ module _ (code : Code) (taken : AcceptedCode code) where
             flipped n p w (row .1) (m .0) (m .1)
         go (Even w) e h = absurd (neither 3 (omega arith) (omega arith) h)
         go (Odd w) e h = absurd (neither 4 (omega arith) (omega arith) h)
+
+    pub verdict-again : verdictOf (matrixOf code) (code .k) (leftOf (matrixOf code) (code .k) rec) ≡ verdictAgain (verdictOf (matrixOf code) (code .k) rec)
+    verdict-again = go (eqb (verdictOf (matrixOf code) (code .k) rec) 1) (eqb (verdictOf (matrixOf code) (code .k) rec) 2) refl refl
+      where
+        go : (x y : Bool) → eqb (verdictOf (matrixOf code) (code .k) rec) 1 ≡ x → eqb (verdictOf (matrixOf code) (code .k) rec) 2 ≡ y
+            → verdictOf (matrixOf code) (code .k) (leftOf (matrixOf code) (code .k) rec) ≡ cond (x || y) 0 (verdictOf (matrixOf code) (code .k) rec)
+        go true y hx hy = mended-clean (inl (eqb-true (verdictOf (matrixOf code) (code .k) rec) 1 hx))
+        go false true hx hy = mended-clean (inr (eqb-true (verdictOf (matrixOf code) (code .k) rec) 2 hy))
+        go false false hx hy =
+            ap (verdictOf (matrixOf code) (code .k))
+            (kept (matrixOf code) (code .k) rec (eqb-false (verdictOf (matrixOf code) (code .k) rec) 1 hx) (eqb-false (verdictOf (matrixOf code) (code .k) rec) 2 hy))
+
+    -- a record that was passed over stays as it is
+    pub left-again : leftOf (matrixOf code) (code .k) (leftOf (matrixOf code) (code .k) rec) ≡ leftOf (matrixOf code) (code .k) rec
+    left-again =
+        let n = never (verdictOf (matrixOf code) (code .k) rec) in
+        kept (matrixOf code) (code .k) (leftOf (matrixOf code) (code .k) rec) (λ z. n .0 (sym verdict-again ∙ z)) (λ z. n .1 (sym verdict-again ∙ z))
