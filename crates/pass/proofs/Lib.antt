@@ -5,3 +5,4 @@ pub mod Table
 pub mod Entries
 pub mod Facts
 pub mod Mended
+pub mod Twice
