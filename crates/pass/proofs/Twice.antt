@@ -23,7 +23,7 @@ use Rattle.pass.specs.declared.Passed.the-variants.{Done}
 use Rattle.pass.specs.Outcome.{verdictOf, leftOf, entryOf}
 use Rattle.pass.specs.Pass.{After, doneBy, leftRun, entriesRun, neededRun, countRun, tallyRun, recordsIn, roomIn, afterPass, verdictAt, entriesNeeded}
 use Rattle.pass.specs.Says.{Image, Run, Asked, Says}
-use Rattle.pass.specs.Twice.{added, verdictAgain, tallyAgain}
+use Rattle.pass.specs.Twice.{added, thenPass, verdictAgain, tallyAgain}
 use Rattle.pass.proofs.Outcomes.{verdict-le, length-left}
 use Rattle.pass.proofs.Table.{says-after, says-pass}
 use Rattle.pass.proofs.Mended as mended
@@ -111,3 +111,116 @@ module _ (code : Code) (taken : AcceptedCode code) (image : List ℕ) (a b : ℕ
         sym tally-found,
       ) in
       (says-pass code now a b again (Done (tallyAgain t)) says, ap (λ x. x .image) (says-after code now a b again (Done (tallyAgain t)) says) ∙ left-found)
+
+-- ---- two runs that meet
+
+-- what a run says of the image from its first record on
+module _ (cs : List ℕ) (k : ℕ) (image now : List ℕ) (b c : ℕ) (same : fromRecord recordSize b now ≡ fromRecord recordSize b image) where
+  same-needed : neededRun cs k now b c ≡ neededRun cs k image b c
+  same-needed = ap (λ l. sum recordSize (unclean (verdictOf cs k)) l (c - b)) same
+
+  same-tally : tallyRun cs k now b c ≡ tallyRun cs k image b c
+  same-tally = ap (λ l. tallyOf recordSize (verdictOf cs k) l (c - b)) same
+
+  same-entries : entriesRun cs k now b c ≡ entriesRun cs k image b c
+  same-entries = ap (λ l. gather recordSize (λ i. noted (verdictOf cs k) (entryOf cs k) (b + i)) l (c - b)) same
+
+module _ (code : Code) (image : List ℕ) (a b c : ℕ) (journal : List ℕ) where
+  module _ (s : Tally) (e : afterPass code image a b journal .answer ≡ Done s) where
+    rest-same : fromRecord recordSize b (afterPass code image a b journal .image) ≡ fromRecord recordSize b image
+    rest-same = after-stays code image a b journal s e
+
+    needed-both : b ≤ c → entriesNeeded code image a c ≡ entriesNeeded code image a b + entriesNeeded code (afterPass code image a b journal .image) b c
+    needed-both g =
+        sum-split recordSize image a b c (rising code image a b journal s e) g (unclean (verdictOf (matrixOf code) (code .k)))
+        ∙ ap (λ n. entriesNeeded code image a b + n) (sym (same-needed (matrixOf code) (code .k) image (afterPass code image a b journal .image) b c rest-same))
+
+    room-left : length (drop (entrySize * entriesNeeded code image a b) (afterPass code image a b journal .journal)) ≡ length journal - entrySize * entriesNeeded code image a b
+    room-left =
+        length-drop (entrySize * entriesNeeded code image a b) (afterPass code image a b journal .journal)
+        ∙ ap (λ n. n - entrySize * entriesNeeded code image a b) (length-journal code image a b journal s e)
+
+    module _ (t : Tally) (f : thenPass code image a b c journal .answer ≡ Done t) where
+      abbrev now : List ℕ
+      now = afterPass code image a b journal .image
+
+      abbrev rest : List ℕ
+      rest = drop (entrySize * entriesNeeded code image a b) (afterPass code image a b journal .journal)
+
+      up : a ≤ b
+      up = rising code image a b journal s e
+
+      on : b ≤ c
+      on = rising code now b c rest t f
+
+      tally-both : added s t ≡ tallyRun (matrixOf code) (code .k) image a c
+      tally-both =
+          ap₂ added (tally-is code image a b journal s e)
+          (tally-is code now b c rest t f ∙ same-tally (matrixOf code) (code .k) image now b c rest-same)
+          ∙ tally-same (λ v. countRun (matrixOf code) (code .k) image a b v + countRun (matrixOf code) (code .k) image b c v) (countRun (matrixOf code) (code .k) image a c)
+          (λ v. sym (sum-split recordSize image a b c up on (oneIf (verdictOf (matrixOf code) (code .k)) v)))
+
+      whole-says : Says code image a c journal (Done (added s t))
+      whole-says =
+          let first = says-done code image a b journal s e in
+          let second = says-done code now b c rest t f in
+          let size = length-image code image a b journal s e in (
+            same-asked code image image a b a c refl (first .0) (omega (arith, up, on)) (rw size at (second .0 .run .within)),
+            omega (arith, first .1, second .1, needed-both on, room-left),
+            tally-both,
+          )
+
+      -- TWO RUNS THAT MEET, both done, are one: its tally is theirs added, its image is as the second leaves it, and its journal has the
+      -- first's entries and then the second's
+      pub both-done : afterPass code image a c journal .answer ≡ Done (added s t)
+      both-done = says-pass code image a c journal (Done (added s t)) whole-says
+
+      pub both-image : afterPass code image a c journal .image ≡ thenPass code image a b c journal .image
+      both-image =
+          ap (λ x. x .image) (done-is code image a c journal (added s t) both-done)
+          ∙ sym (run-split recordSize image a b c up on (λ i. leftOf (matrixOf code) (code .k)) (λ i. length-left (matrixOf code) (code .k))
+          (fits code image a c journal (added s t) both-done))
+          ∙ ap (λ l. leftRun (matrixOf code) (code .k) l b c) (sym (ap (λ x. x .image) (done-is code image a b journal s e)))
+          ∙ sym (ap (λ x. x .image) (done-is code now b c rest t f))
+
+      pub both-journal : afterPass code image a c journal .journal
+          ≡ take (entrySize * entriesNeeded code image a b) (afterPass code image a b journal .journal) ++ thenPass code image a b c journal .journal
+      both-journal =
+          let cs : List ℕ = matrixOf code in
+          let k = code .k in
+          let n : ℕ = entrySize * entriesNeeded code image a b in
+          let one : List ℕ = entriesRun cs k image a b in
+          let two : List ℕ = entriesRun cs k image b c in
+          let long : length one ≡ n = length-entriesRun cs k image a b up (fits code image a b journal s e) in
+          ap (λ x. x .journal) (done-is code image a c journal (added s t) both-done)
+          ∙ ap (λ l. over l journal) (gather-split recordSize image a b c up on (noted (verdictOf cs k) (entryOf cs k)))
+          ∙ sym (over-over one two journal n long)
+          ∙ ap₂ (λ p q. p ++ q)
+          (sym (ap (λ x. take n (x .journal)) (done-is code image a b journal s e) ∙ take-at one (drop (length one) journal) n long))
+          (sym (ap (λ x. x .journal) (done-is code now b c rest t f)
+          ∙ ap₂ over (same-entries cs k image now b c rest-same) (journal-stays code image a b journal s e)))
+
+  first-done : (u : Tally) → afterPass code image a c journal .answer ≡ Done u → a ≤ b → b ≤ c
+      → afterPass code image a b journal .answer ≡ Done (tallyRun (matrixOf code) (code .k) image a b)
+  first-done u w h g =
+      let whole = says-done code image a c journal u w in
+      let needed = sum-split recordSize image a b c h g (unclean (verdictOf (matrixOf code) (code .k))) in
+      says-pass code image a b journal (Done (tallyRun (matrixOf code) (code .k) image a b))
+      (same-asked code image image a c a b refl (whole .0) h (omega (arith, whole .0 .run .within)), omega (arith, whole .1), refl)
+
+  -- and a run that is done is done in two
+  pub done-both : (u : Tally) → afterPass code image a c journal .answer ≡ Done u → a ≤ b → b ≤ c
+      → (afterPass code image a b journal .answer ≡ Done (tallyRun (matrixOf code) (code .k) image a b))
+      × (thenPass code image a b c journal .answer ≡ Done (tallyRun (matrixOf code) (code .k) image b c))
+  done-both u w h g =
+      let first = first-done u w h g in
+      let s : Tally = tallyRun (matrixOf code) (code .k) image a b in
+      let now : List ℕ = afterPass code image a b journal .image in
+      let rest : List ℕ = drop (entrySize * entriesNeeded code image a b) (afterPass code image a b journal .journal) in
+      let whole = says-done code image a c journal u w in
+      let says : Says code now b c rest (Done (tallyRun (matrixOf code) (code .k) image b c)) = (
+        same-asked code image now a c b c (length-image code image a b journal s first) (whole .0) g (whole .0 .run .within),
+        omega (arith, whole .1, needed-both s first g, room-left s first),
+        sym (same-tally (matrixOf code) (code .k) image now b c (rest-same s first)),
+      ) in
+      (first, says-pass code now b c rest (Done (tallyRun (matrixOf code) (code .k) image b c)) says)
