@@ -5,10 +5,10 @@ use mathlib.Core.Logic.{_≢_, _⊎_, inl, inr, ⊎-elim}
 use mathlib.Core.List.{List}
 use Prim.Native.Nat.{ℕ, _+_, _*_, _-_, _≤_, _<_}
 use native.Mathlib.Omega.{arith}
-use lib.ListN.{length, take, drop, length-drop}
+use lib.ListN.{length, take, drop, length-drop, take-append-drop}
 use Rattle.record.specs.declared.Tally.{Tally}
 use Rattle.record.specs.Layout.{recordSize, entrySize, recordBytes, entryBytes}
-use Rattle.record.specs.Run.{recordAt, sum, over, fromRecord}
+use Rattle.record.specs.Run.{recordAt, gather, sum, over, fromRecord}
 use Rattle.record.specs.Tally.{none}
 use Rattle.record.specs.Journal.{unclean}
 use Rattle.record.proofs.Over.{length-over, drop-over}
@@ -19,14 +19,15 @@ use Rattle.record.proofs.Image as runs
 use Rattle.code.specs.declared.Code.{Code}
 use Rattle.code.specs.declared.Judged.{Judged}
 use Rattle.code.specs.declared.Judged.the-variants.{Accepted, NoData, NoChecks, TooWide, EvenColumn, SingleOne, Repeated}
+use Rattle.code.specs.Judge.{judgeOf}
 use Rattle.code.specs.Judge as judge
 use Rattle.code.specs.Rule.{matrixOf}
 use Rattle.word.specs.Reading.{handedBack}
 use Rattle.pass.specs.declared.Passed.{Passed}
 use Rattle.pass.specs.declared.Passed.the-variants.{Refused, BadImage, BadRun, NoRoom, Done}
 use Rattle.pass.specs.Outcome.{placeFor, readingOf, verdictOf, leftOf, entryOf}
-use Rattle.pass.specs.Pass.{After, doneBy, entriesRun, neededRun, countRun, tallyRun, afterPass, readingAt, verdictAt, entriesNeeded, numberOf, tallyIn}
-use Rattle.pass.specs.Says.{Says}
+use Rattle.pass.specs.Pass.{After, doneBy, entriesRun, neededRun, countRun, tallyRun, recordsIn, afterPass, readingAt, verdictAt, entriesNeeded, numberOf, tallyIn}
+use Rattle.pass.specs.Says.{Image, Says}
 use Rattle.pass.proofs.Outcomes.{verdict-le, length-left, length-entryOf, kept, mended}
 use Rattle.pass.proofs.Table.{afterBy, pass-says, says-after, pass-exactly}
 use Rattle.pass.proofs.Entries.{entries-rise, entry-at}
@@ -227,3 +228,14 @@ module _ (code : Code) (image : List ℕ) (a b : ℕ) (journal : List ℕ) where
   same-length =
       either (λ x. (length (x .image) ≡ length image) × (length (x .journal) ≡ length journal))
       (λ t e. (length-image code image a b journal t e, length-journal code image a b journal t e)) (λ x e f. (ap length e, ap length f))
+
+-- ---- a run with equal ends is done: no byte changes, and the tally is all zero
+
+pub empty-run : (code : Code) (image : List ℕ) (a : ℕ) (journal : List ℕ) → judgeOf code ≡ Accepted → Image image → a ≤ recordsIn image
+    → afterPass code image a a journal ≡ record { answer = Done none; image = image; journal = journal }
+unfolding sum gather
+empty-run code image a journal taken records within =
+    let z : a - a ≡ 0 = omega arith in
+    says-after code image a a journal (Done (tallyRun (matrixOf code) (code .k) image a a))
+    (record { taken = taken; records = records; run = record { rising = omega arith; within = within } }, rw z (omega arith), refl)
+    ∙ rw z (ap (λ l. record { answer = Done none; image = l; journal = journal }) (take-append-drop (a * recordSize) image))
