@@ -1,20 +1,17 @@
-use Prim.Native.Nat.{ℕ}
-use mathlib.Core.Path.{_≡_, refl, sym, ap, subst, _∙_}
+-- `pass::pass` meets its contract: a refused code ends it, an accepted one hands its columns on. Assumes nothing.
+use mathlib.Core.Path.{_≡_, refl, sym, ap, _∙_}
 use mathlib.Core.List.{List}
+use Prim.Native.Nat.{ℕ}
 use native.Mathlib.Omega.{arith}
+use borrow.Author.Needs.{needs}
 use lib.ListN.{length}
 use lib.Seq.{length-take-le}
 use Rattle.code.proofs.Steps.{refused}
 use Rattle.code.proofs.Ready.{Ready, ready}
 use Rattle.pass.specs.Pass.{passIn}
 use Rattle.pass.proofs.Cases.{claims, pass-refused, pass-accepted}
-use borrow.Author.Needs.{needs}
 use Rattle.pass.proofs.pass.Statement.{statement}
 use Rattle.pass.proofs.pass.Tie as tie
-use Rattle.pass.proofs.pass.Reads as reads
-use Rattle.pass.proofs.pass.Lts as lts
-use Rattle.code.proofs.open_code.Reads as open-code-reads
-use Rattle.pass.proofs.pass_in.Reads as pass-in-reads
 
 -- the arguments, from the place where the code is opened
 abbrev start : tie.After-open-code → tie.Start
@@ -30,14 +27,12 @@ is-ready c =
 all-places : (c : tie.After-enum-told) → length (c .before .before .open-code .result .columns) ≡ 80
 all-places c = search needs
 
--- src/lib.rt:192:9
 open-code-requires : tie.Need-open-code-requires
 open-code-requires c κs = search needs
 
 enum-told : tie.Need-enum-told
 enum-told c = search needs
 
--- src/lib.rt:195:9
 returns : tie.Need-returns
 returns c =
     let o = c .before in
@@ -47,27 +42,23 @@ returns c =
     (pass-refused (a .code) (a .image .now) (a .start) (a .end) (a .journal .now) v (ap (λ x. x .verdict) (o .open-code .ensures)) (refused v (c .match .keys2)))
     refl refl refl
 
--- src/lib.rt:198:13
 add-n : tie.Need-add-n
 add-n c =
     let l = is-ready (c .before) .limits in
     omega (arith, l .sized .few)
 
--- src/lib.rt:200:13
 array-share-prefix-columns : tie.Need-array-share-prefix-columns
 array-share-prefix-columns c =
     let l = is-ready (c .before .before) .limits in
     let n = all-places (c .before .before) in
     omega (arith, l .sized .few)
 
--- src/lib.rt:200:13
 slice-aggregate-pass-in : tie.Need-slice-aggregate-pass-in
 slice-aggregate-pass-in c =
     let l = is-ready (c .before .before .before) .limits in
     let n = all-places (c .before .before .before) in
     sym (length-take-le _ _ (omega (arith, l .sized .few)))
 
--- src/lib.rt:200:5
 pass-in-requires : tie.Need-pass-in-requires
 pass-in-requires c κs =
     let t = is-ready (c .before .before .before .before .before) in
@@ -75,15 +66,12 @@ pass-in-requires c κs =
     let n = ap length (t .laid) ∙ t .size in
     (omega (arith, l .sized .few), omega arith, omega arith)
 
--- src/lib.rt:187:1
 same-length : tie.Need-same-length
 same-length c = search needs
 
--- src/lib.rt:187:1
 same-length-2 : tie.Need-same-length-2
 same-length-2 c = search needs
 
--- src/lib.rt:187:1
 returns-2 : tie.Need-returns-2
 returns-2 c =
     let p = c .before .before .before .before in

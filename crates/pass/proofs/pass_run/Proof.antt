@@ -1,8 +1,11 @@
+-- `pass::pass_run` meets its contract. The invariant: run and journal are as they were, but for what the records before i leave and say.
+-- Assumes nothing.
 use mathlib.Core.Path.{_≡_, refl, sym, ap, ap₂, subst, _∙_}
 use mathlib.Core.List.{List}
 use Prim.Native.Nat.{ℕ, suc, _+_, _*_, _-_, _/_, _≤_, _<_}
 use native.Mathlib.Omega.{arith}
 use borrow.Rule.Slice.PartMut.{putMid}
+use borrow.Author.Needs.{needs}
 use lib.ListN.{length, take, drop}
 use Rattle.record.specs.Layout.{recordSize, entrySize}
 use Rattle.record.specs.Run.{recordAt, gather, sum, over}
@@ -14,16 +17,8 @@ use Rattle.record.proofs.Tallies.{tally-step}
 use Rattle.record.proofs.Journal.{needed-clean, needed-more, entries-clean, entries-write, length-entries}
 use Rattle.pass.specs.Outcome.{verdictIn, placeFor, leftBy, entryBy, readingOf, verdictOf, leftOf, entryOf}
 use Rattle.pass.proofs.Outcomes as outcomes
-use borrow.Author.Needs.{needs}
 use Rattle.pass.proofs.pass_run.Statement.{statement}
 use Rattle.pass.proofs.pass_run.Tie as tie
-use Rattle.pass.proofs.pass_run.Reads as reads
-use Rattle.pass.proofs.pass_run.Lts as lts
-use Rattle.pass.proofs.enter.Reads as enter-reads
-use Rattle.pass.proofs.look.Reads as look-reads
-use Rattle.pass.proofs.verdict_in.Reads as verdict-in-reads
-use Rattle.record.proofs.Tally.counted.Reads as counted-reads
-use Rattle.record.proofs.Tally.new.Reads as new-reads
 
 -- the first i records as they are left, their entries, how many these are, and the tally
 abbrev left : List ℕ → ℕ → List ℕ → ℕ → List ℕ
@@ -147,98 +142,75 @@ entries-next c =
     (length-entries recordSize (verdictOf (cs l) (k l)) (entryOf (cs l) (k l)) entrySize size first (run₀ l) (at l) (omega (arith, fits l)) ∙ sym (head l .loop .inv .4))
     same (ap length same ∙ size (first + at l) (rec l) (record-length recordSize (run₀ l) (at l) (fits l)) ∙ omega arith)
 
--- src/lib.rt:128:9
 new-requires : tie.Need-new-requires Inv-loop μ-loop
 new-requires c κs = search needs
 
--- src/lib.rt:131:5
 loop-holds : tie.Need-loop-holds Inv-loop μ-loop
 unfolding gather sum
 loop-holds c = search needs
 
--- src/lib.rt:132:18
 mul-at : tie.Need-mul-at Inv-loop μ-loop
 mul-at c = search needs
 
--- src/lib.rt:133:19
 add-end : tie.Need-add-end Inv-loop μ-loop
 add-end c = search needs
 
--- src/lib.rt:134:23
 add-number : tie.Need-add-number Inv-loop μ-loop
 add-number c = search needs
 
--- src/lib.rt:134:22
 cast-number : tie.Need-cast-number Inv-loop μ-loop
 cast-number c = search needs
 
--- src/lib.rt:135:40
 sub-look : tie.Need-sub-look Inv-loop μ-loop
 sub-look c = search needs
 
--- src/lib.rt:135:40
 part-look-start : tie.Need-part-look-start Inv-loop μ-loop
 part-look-start c = search needs
 
--- src/lib.rt:135:40
 part-look-end : tie.Need-part-look-end Inv-loop μ-loop
 part-look-end c = search needs
 
--- src/lib.rt:135:13
 look-requires : tie.Need-look-requires Inv-loop μ-loop
 look-requires c κs = search needs
 
--- src/lib.rt:136:13
 verdict-in-requires : tie.Need-verdict-in-requires Inv-loop μ-loop
 verdict-in-requires c κs = search needs
 
--- src/lib.rt:137:9
 counted-requires : tie.Need-counted-requires Inv-loop μ-loop
 counted-requires c κs = search needs
 
--- src/lib.rt:138:9
 add-i : tie.Need-add-i Inv-loop μ-loop
 add-i c = search needs
 
--- src/lib.rt:140:22
 add-to : tie.Need-add-to Inv-loop μ-loop
 add-to c = omega (arith, room c)
 
--- src/lib.rt:141:19
 sub-enter : tie.Need-sub-enter Inv-loop μ-loop
 sub-enter c = search needs
 
--- src/lib.rt:141:19
 part-enter-start : tie.Need-part-enter-start Inv-loop μ-loop
 part-enter-start c = search needs
 
--- src/lib.rt:141:19
 part-enter-end : tie.Need-part-enter-end Inv-loop μ-loop
 part-enter-end c = search needs
 
--- src/lib.rt:141:38
 sub-enter-2 : tie.Need-sub-enter-2 Inv-loop μ-loop
 sub-enter-2 c = search needs
 
--- src/lib.rt:141:38
 part-enter-start-2 : tie.Need-part-enter-start-2 Inv-loop μ-loop
 part-enter-start-2 c = search needs
 
--- src/lib.rt:141:38
 part-enter-end-2 : tie.Need-part-enter-end-2 Inv-loop μ-loop
 part-enter-end-2 c = omega (arith, room (c .before))
 
--- src/lib.rt:141:13
 enter-requires : tie.Need-enter-requires Inv-loop μ-loop
 enter-requires c κs =
     let l = c .before .before .before .before .before in
     (search needs, (search needs, subst (λ r. placeFor r < 256) (sym (seen l)) (outcomes.place-fits (cs l) (k l) (start (head l) .pre .0) (rec l))))
 
--- src/lib.rt:131:5
 loop-less : tie.Need-loop-less Inv-loop μ-loop
 loop-less c = search needs
 
--- src/lib.rt:131:5
 loop-again : tie.Need-loop-again Inv-loop μ-loop
 loop-again c =
     let e = c .before .before .before .before in
@@ -254,11 +226,9 @@ loop-again c =
       c .before .journal .given .1 ∙ head l .loop .inv .7,
     )
 
--- src/lib.rt:131:5
 loop-less-2 : tie.Need-loop-less-2 Inv-loop μ-loop
 loop-less-2 c = search needs
 
--- src/lib.rt:131:5
 loop-again-2 : tie.Need-loop-again-2 Inv-loop μ-loop
 loop-again-2 c =
     let l = c .before .before .before in
@@ -274,15 +244,12 @@ loop-again-2 c =
       head l .loop .inv .7,
     )
 
--- src/lib.rt:118:1
 same-length : tie.Need-same-length Inv-loop μ-loop
 same-length c = search needs
 
--- src/lib.rt:118:1
 same-length-2 : tie.Need-same-length-2 Inv-loop μ-loop
 same-length-2 c = search needs
 
--- src/lib.rt:118:1
 returns : tie.Need-returns Inv-loop μ-loop
 returns c =
     let l = c .before .loop in
