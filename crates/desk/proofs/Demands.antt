@@ -4,6 +4,7 @@ use Rattle.desk.proofs.OfCodes as codes
 use Rattle.desk.proofs.OfWords as words
 use Rattle.desk.proofs.OfLists as lists
 use Rattle.desk.proofs.OfCards as cards
+use Rattle.desk.proofs.OfPasses as passes
 
 -- ---- the code
 
@@ -81,3 +82,26 @@ cards-refuse = cards.cards-refuse
 
 pub card-flagged : demands.CardFlagged
 card-flagged = cards.card-flagged-read
+
+-- ---- the pass
+
+pub pass-refuses : demands.PassRefuses
+pass-refuses = passes.pass-refuses
+
+pub pass-outside : demands.PassOutside
+pass-outside = passes.pass-outside
+
+pub pass-records : demands.PassRecords
+pass-records = passes.pass-records
+
+pub pass-entries : demands.PassEntries
+pass-entries = passes.pass-entries
+
+pub pass-counts : demands.PassCounts
+pass-counts = passes.pass-counts
+
+pub pass-again : demands.PassAgain
+pass-again = passes.pass-again
+
+pub pass-in-two : demands.PassInTwo
+pass-in-two = passes.pass-in-two

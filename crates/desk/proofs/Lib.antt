@@ -4,4 +4,5 @@ pub mod OfCodes
 pub mod OfWords
 pub mod OfLists
 pub mod OfCards
+pub mod OfPasses
 pub mod Demands

@@ -4,13 +4,13 @@
 use mathlib.Core.Path.{_≡_}
 use mathlib.Core.Logic.{_≢_, _⊎_, _↔_}
 use mathlib.Core.Bool.{cond}
-use mathlib.Core.List.{List, [], _∷_, List·Memᴰ}
+use mathlib.Core.List.{List, [], _∷_, _++_, List·Memᴰ}
 use Prim.Native.Nat.{ℕ, _+_, _-_, _*_, _/_, _^_, _≤_, _<_, min, max}
 use lib.Bits.{bitXor}
 use lib.Count.{ones}
 use lib.Dec.{ltb}
 use lib.IntN.{pos}
-use lib.ListN.{length, getD}
+use lib.ListN.{length, getD, take, drop}
 use Rattle.parity.specs.Odd.{oddOnes}
 use Rattle.columns.specs.Mix.{column, flip}
 use Rattle.columns.specs.Bits.{bitAt, rowBit}
@@ -19,14 +19,19 @@ use Rattle.code.specs.declared.Judged.{Judged}
 use Rattle.code.specs.Judge.{numberOf, toldOf}
 use Rattle.code.specs.Rule.{matrixOf, Limits, Says}
 use Rattle.balance.specs.Balance.{sumℤ}
-use Rattle.record.specs.Run.{over}
+use Rattle.record.specs.Layout.{entrySize, recordBytes, entryBytes}
+use Rattle.record.specs.Run.{recordAt, over}
+use Rattle.record.specs.Tally.{tallyBy}
 use Rattle.explain.specs.Sets.{flipAll, bytesFor}
 use Rattle.explain.specs.Order.{SetOf, InOrder}
 use Rattle.explain.specs.Explanations.{explanations, explanationsOf, listAfter}
 use Rattle.cards.specs.Cards.{cardAt}
 use Rattle.cards.specs.Rule.{CardProof, FirstWeak, flipMask}
-use Rattle.desk.specs.Answers.{checkBitsOf, judgementOf, rowsOf, writtenOf, readOf, listingOf, cardsOf}
-use Rattle.desk.specs.Definitions.{Handed, Stored, Accepted, Refused, dataColumns, placesOf, Unstrayed, read, handedBack, Clean, refusedWriting, refusedReading, refusedListing, refusedCards, only}
+use Rattle.pass.specs.Pass.{entriesNeeded}
+use Rattle.pass.specs.Says.{Image, NoImage, Run, NoRun}
+use Rattle.pass.specs.Twice.{added, tallyAgain}
+use Rattle.desk.specs.Answers.{checkBitsOf, judgementOf, rowsOf, writtenOf, readOf, listingOf, cardsOf, passedOf}
+use Rattle.desk.specs.Definitions.{Handed, Stored, Accepted, Refused, dataColumns, placesOf, Unstrayed, read, handedBack, Clean, refusedWriting, refusedReading, refusedListing, refusedCards, PassRefused, only, record₁₀, readAt, verdictOf, placeFor, imageAfter, journalAfter, Done, countFrom}
 
 -- ---- the code
 
@@ -216,3 +221,82 @@ CardFlagged =
     → (t mask : ℕ) → mask < 2 ^ length (cardAt b (matrixOf code) t) → 2 ≤ ones mask
     → let u = flipMask w (t * b) mask in
     ((read code u .verdict ≡ 3) ⊎ (read code u .verdict ≡ 4)) × (handedBack code (read code u) ≡ u)
+
+-- ---- the pass
+
+-- A pass refuses in this order: the code's number and place; 12 for an image whose length is no multiple of 10 or over 65,530; 14 for a run whose
+-- start is above its end or whose end is above the number of records; 13, told the entries needed, where the journal has room for fewer.
+-- A refused pass has an all-zero tally and changes no byte of image or journal.
+abbrev pub PassRefuses : Type 0
+PassRefuses =
+    (code : Code) (image : List ℕ) (a b : ℕ) (journal : List ℕ)
+    → let needed = entriesNeeded code image a b in
+    (Refused code → PassRefused code image a b journal (judgementOf code))
+    × (Accepted code → NoImage image → PassRefused code image a b journal (only 12))
+    × (Accepted code → Image image → NoRun image a b → PassRefused code image a b journal (only 14))
+    × (Accepted code → Image image → Run image a b → length journal / 24 < needed
+    → PassRefused code image a b journal (record { number = 13; told = needed }))
+    × (Accepted code → Image image → Run image a b → needed ≤ length journal / 24
+    → Done code image a b journal × (passedOf code image a b journal .told ≡ 0))
+
+-- Whatever is answered, the bytes outside the run stay.
+abbrev pub PassOutside : Type 0
+PassOutside =
+    (code : Code) (image : List ℕ) (a b : ℕ) (journal : List ℕ)
+    → (take (a * 10) (imageAfter code image a b journal) ≡ take (a * 10) image)
+    × (drop (b * 10) (imageAfter code image a b journal) ≡ drop (b * 10) image)
+    × (length (imageAfter code image a b journal) ≡ length image)
+    × (length (journalAfter code image a b journal) ≡ length journal)
+
+-- In a done pass only records of verdict 1 and 2 of the run change, each to the word that reading it hands back.
+abbrev pub PassRecords : Type 0
+PassRecords =
+    (code : Code) → Handed code → (image : List ℕ) (a b : ℕ) (journal : List ℕ) → Done code image a b journal
+    → (i : ℕ) → a ≤ i → i < b
+    → ((verdictOf code image i ≡ 1) ⊎ (verdictOf code image i ≡ 2)
+    → record₁₀ (imageAfter code image a b journal) i ≡ recordBytes (readAt code image i .«data») (readAt code image i .check))
+    × (verdictOf code image i ≢ 1 → verdictOf code image i ≢ 2 → record₁₀ (imageAfter code image a b journal) i ≡ record₁₀ image i)
+
+-- Each record of the run with a verdict 1 to 5 has its entry, behind those of the run's records before it: number, verdict, place, the bytes
+-- as read and the bytes as left. There are no other entries, and the journal's bytes past them stay.
+abbrev pub PassEntries : Type 0
+PassEntries =
+    (code : Code) → Handed code → (image : List ℕ) (a b : ℕ) (journal : List ℕ) → Done code image a b journal
+    → ((i : ℕ) → a ≤ i → i < b → verdictOf code image i ≢ 0
+    → recordAt entrySize (journalAfter code image a b journal) (entriesNeeded code image a i)
+    ≡ entryBytes i (verdictOf code image i) (placeFor code image i) (record₁₀ image i) (record₁₀ (imageAfter code image a b journal) i))
+    × ((m : ℕ) → m < entriesNeeded code image a b
+    → (i : ℕ) × (a ≤ i) × (i < b) × (verdictOf code image i ≢ 0) × (entriesNeeded code image a i ≡ m))
+    × (drop (24 * entriesNeeded code image a b) (journalAfter code image a b journal) ≡ drop (24 * entriesNeeded code image a b) journal)
+
+-- Each count of a done pass is the number of the run's records with that verdict; the six add up to the run's length, and the five that are
+-- no 0 to the number of entries.
+abbrev pub PassCounts : Type 0
+PassCounts =
+    (code : Code) → Handed code → (image : List ℕ) (a b : ℕ) (journal : List ℕ) → Done code image a b journal
+    → let t = passedOf code image a b journal .tally in
+    (t ≡ tallyBy (λ v. countFrom code image v a (b - a)))
+    × (t .clean + t .«data» + t .check + t .even + t .odd + t .stray ≡ b - a)
+    × (entriesNeeded code image a b ≡ t .«data» + t .check + t .even + t .odd + t .stray)
+
+-- Passing over a done run again finds every mended record clean and the others as before, and changes no byte of the image.
+abbrev pub PassAgain : Type 0
+PassAgain =
+    (code : Code) → Handed code → (image : List ℕ) (a b : ℕ) (journal : List ℕ) → Done code image a b journal
+    → let t = passedOf code image a b journal .tally in
+    let left = imageAfter code image a b journal in
+    (again : List ℕ) → t .even + t .odd + t .stray ≤ length again / 24
+    → (passedOf code left a b again ≡ record { number = 0; told = 0; tally = tallyAgain t }) × (imageAfter code left a b again ≡ left)
+
+-- A pass over [a, b) and then one over [b, c), its journal going on behind the first's entries, are the pass over [a, c): the tallies added,
+-- the same image, the same journal.
+abbrev pub PassInTwo : Type 0
+PassInTwo =
+    (code : Code) (image : List ℕ) (a b c : ℕ) (journal : List ℕ)
+    → let left = imageAfter code image a b journal in
+    let used = 24 * entriesNeeded code image a b in
+    let rest = drop used (journalAfter code image a b journal) in
+    Done code image a b journal → Done code left b c rest
+    → (passedOf code image a c journal ≡ record { number = 0; told = 0; tally = added (passedOf code image a b journal .tally) (passedOf code left b c rest .tally) })
+    × (imageAfter code image a c journal ≡ imageAfter code left b c rest)
+    × (journalAfter code image a c journal ≡ take used (journalAfter code image a b journal) ++ journalAfter code left b c rest)
