@@ -1,0 +1,57 @@
+/* Prints the layout of every struct as the C compiler has it; layout.txt holds what it must be. */
+#include "desk.h"
+
+#include <stdio.h>
+
+#define STRUCT(name) printf(#name " size %zu align %zu\n", sizeof(Desk##name), _Alignof(Desk##name))
+#define FIELD(name, field) \
+    printf(#name "." #field " at %zu size %zu\n", offsetof(Desk##name, field), sizeof(((Desk##name *)0)->field))
+
+int main(void) {
+    STRUCT(Code);
+    FIELD(Code, columns);
+    FIELD(Code, k);
+    FIELD(Code, r);
+    STRUCT(CheckBits);
+    FIELD(CheckBits, number);
+    FIELD(CheckBits, bits);
+    STRUCT(Judgement);
+    FIELD(Judgement, number);
+    FIELD(Judgement, told);
+    STRUCT(RowBalance);
+    FIELD(RowBalance, number);
+    FIELD(RowBalance, told);
+    FIELD(RowBalance, rows);
+    STRUCT(CheckWord);
+    FIELD(CheckWord, number);
+    FIELD(CheckWord, told);
+    FIELD(CheckWord, check);
+    STRUCT(ReadWord);
+    FIELD(ReadWord, number);
+    FIELD(ReadWord, told);
+    FIELD(ReadWord, verdict);
+    FIELD(ReadWord, place);
+    FIELD(ReadWord, data);
+    FIELD(ReadWord, check);
+    STRUCT(Listing);
+    FIELD(Listing, number);
+    FIELD(Listing, told);
+    FIELD(Listing, length);
+    STRUCT(CardCheck);
+    FIELD(CardCheck, number);
+    FIELD(CardCheck, told);
+    FIELD(CardCheck, card);
+    FIELD(CardCheck, mask);
+    STRUCT(Tally);
+    FIELD(Tally, clean);
+    FIELD(Tally, data);
+    FIELD(Tally, check);
+    FIELD(Tally, even);
+    FIELD(Tally, odd);
+    FIELD(Tally, stray);
+    STRUCT(PassAnswer);
+    FIELD(PassAnswer, number);
+    FIELD(PassAnswer, told);
+    FIELD(PassAnswer, tally);
+    return 0;
+}

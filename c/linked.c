@@ -1,0 +1,148 @@
+/* What the archive does, seen from C: every field of every answer, and the lent bytes that it must leave. */
+#include "cases.h"
+#include "codes.h"
+
+/* 17 columns with 16 check bits: no two rows have the same balance. */
+static DeskCode sixteen_rows(void) {
+    static const uint16_t columns[] = {0xAF08, 0xD0C0, 0xDE02, 0xE868, 0xEB04, 0xEE10, 0xF680, 0xF6A8, 0xF970,
+                                       0xFA80, 0xFB60, 0xFBC0, 0xFC80, 0xFC8C, 0xFD88, 0xFF40, 0xFFC4};
+    return code_of(columns, 17, 16);
+}
+
+/* The sample with the column at place 5 equal to that at place 4: refused by 6, told 5. */
+static DeskCode repeated(void) {
+    DeskCode code = sample();
+    code.columns[5] = code.columns[4];
+    return code;
+}
+
+/* A record of each verdict as often as its number and one more: the tally is 1, 2, 3, 4, 5, 6. */
+static void put_every_verdict(uint8_t image[21 * DESK_RECORD]) {
+    static const uint64_t data[] = {0xA5, 0xA4, 0xA5, 0xA6, 0xA6, 0x100};
+    static const uint16_t check[] = {27, 27, 26, 27, 26, 0};
+    size_t at = 0;
+    for (size_t verdict = 0; verdict < 6; verdict++) {
+        for (size_t times = 0; times <= verdict; times++) {
+            put_record(image + DESK_RECORD * at++, data[verdict], check[verdict]);
+        }
+    }
+}
+
+static int same_read(DeskReadWord a, size_t number, size_t told, size_t verdict, size_t place, uint64_t data,
+                     uint16_t check) {
+    return a.number == number && a.told == told && a.verdict == verdict && a.place == place && a.data == data &&
+           a.check == check;
+}
+
+static int same_tally(DeskTally t, size_t clean, size_t data, size_t check, size_t even, size_t odd, size_t stray) {
+    return t.clean == clean && t.data == data && t.check == check && t.even == even && t.odd == odd && t.stray == stray;
+}
+
+static void code_fields(void) {
+    static const int32_t rows[DESK_ROWS] = {-135, -119, -87, -55, -103, -71, -23, 9, -7, 41, 25, 89, 73, 105, 121, 137};
+    DeskCheckBits bits = desk_check_bits(64);
+    expect("desk_check_bits: every field", bits.number == 0 && bits.bits == 8);
+    DeskJudgement told = desk_judge(repeated());
+    expect("desk_judge: every field", told.number == 6 && told.told == 5);
+    DeskRowBalance balance = desk_row_balance(sixteen_rows());
+    expect("desk_row_balance: every row", balance.number == 0 && balance.told == 0 && memcmp(balance.rows, rows, 64) == 0);
+    static const int32_t zeros[DESK_ROWS];
+    balance = desk_row_balance(repeated());
+    expect("desk_row_balance: refused", balance.number == 6 && balance.told == 5 && memcmp(balance.rows, zeros, 64) == 0);
+}
+
+static void word_fields(void) {
+    const uint64_t data = 0x8877665544332211;
+    DeskCheckWord written = desk_write(sample(), 0xFF);
+    expect("desk_write: every field", written.number == 0 && written.told == 0 && written.check == 12);
+    written = desk_write(repeated(), 0xFF);
+    expect("desk_write: refused", written.number == 6 && written.told == 5 && written.check == 0);
+    expect("desk_read: every field", same_read(desk_read(sample(), 0xA6, 25), 0, 0, 2, 10, 0xA6, 29));
+    expect("desk_read: refused", same_read(desk_read(repeated(), 0xA6, 25), 6, 5, 0, 0, 0, 0));
+    uint16_t check = desk_write(full(8), data).check;
+    expect("desk_read: all 64 data bits",
+           same_read(desk_read(full(8), data ^ (uint64_t)1 << 63, check), 0, 0, 1, 63, data, check));
+}
+
+static void list_and_card_fields(void) {
+    uint8_t list[DESK_LONGEST_LIST];
+    DeskListing listing = desk_explain(sample(), 0xA6, 27, 2, list, sizeof list);
+    expect("desk_explain: every field", listing.number == 0 && listing.told == 0 && listing.length == 5);
+    listing = desk_explain(sample(), 0xA6, 27, 2, NULL, 0);
+    expect("desk_explain: refused", listing.number == 10 && listing.told == 5 && listing.length == 0);
+    DeskCardCheck cards = desk_cards(sample(), 3);
+    expect("desk_cards: every field", cards.number == 9 && cards.told == 0 && cards.card == 1 && cards.mask == 7);
+    cards = desk_cards(repeated(), 3);
+    expect("desk_cards: refused", cards.number == 6 && cards.told == 5 && cards.card == 0 && cards.mask == 0);
+}
+
+static void pass_fields(void) {
+    uint8_t image[21 * DESK_RECORD], journal[20 * DESK_ENTRY + 7];
+    put_every_verdict(image);
+    DeskPassAnswer a = desk_pass(sample(), image, sizeof image, 0, 21, NULL, 0);
+    expect("desk_pass: refused", a.number == 13 && a.told == 20 && same_tally(a.tally, 0, 0, 0, 0, 0, 0));
+    memset(journal, 0xEE, sizeof journal);
+    a = desk_pass(sample(), image, sizeof image, 0, 21, journal, sizeof journal);
+    expect("desk_pass: every field", a.number == 0 && a.told == 0 && same_tally(a.tally, 1, 2, 3, 4, 5, 6));
+    expect("desk_pass: the journal past its entries stays", is_filled(journal + 20 * DESK_ENTRY, 7, 0xEE));
+    a = desk_pass(sample(), image, sizeof image, 0, 21, journal, sizeof journal);
+    expect("desk_pass: what was mended is clean", a.number == 0 && same_tally(a.tally, 6, 0, 0, 4, 5, 6));
+}
+
+/* Whether a list is refused by this number with the buffer as it was. */
+static int list_stays(DeskCode code, uint64_t data, size_t limit, size_t room, size_t number) {
+    uint8_t list[DESK_LONGEST_LIST];
+    memset(list, 0xEE, sizeof list);
+    DeskListing a = desk_explain(code, data, 27, limit, list, room);
+    return a.number == number && a.length == 0 && is_filled(list, sizeof list, 0xEE);
+}
+
+/* Whether a pass is refused by this number with image and journal as they were. */
+static int image_stays(DeskCode code, size_t length, size_t start, size_t end, size_t room, size_t number) {
+    uint8_t image[21 * DESK_RECORD], before[21 * DESK_RECORD], journal[20 * DESK_ENTRY];
+    put_every_verdict(image);
+    put_every_verdict(before);
+    memset(journal, 0xEE, sizeof journal);
+    DeskPassAnswer a = desk_pass(code, image, length, start, end, journal, room);
+    return a.number == number && same_tally(a.tally, 0, 0, 0, 0, 0, 0) && memcmp(image, before, sizeof image) == 0 &&
+           is_filled(journal, sizeof journal, 0xEE);
+}
+
+/* The sample with k, r and the last column set; each of 1 to 6 is refused by its number. */
+static DeskCode refused_by(size_t number) {
+    DeskCode code = sample();
+    switch (number) {
+    case 1: code.k = 0; break;
+    case 2: code.r = 2; break;
+    case 3: code.columns[7] = 32; break;
+    case 4: code.columns[7] = 12; break;
+    case 5: code.columns[7] = 16; break;
+    case 6: code.columns[7] = 28; break;
+    }
+    return code;
+}
+
+static void refusals_leave_buffers(void) {
+    char name[96];
+    for (size_t number = 1; number <= 6; number++) {
+        snprintf(name, sizeof name, "refused by %zu: the list stays", number);
+        expect(name, list_stays(refused_by(number), 0xA6, 2, 80, number));
+        snprintf(name, sizeof name, "refused by %zu: image and journal stay", number);
+        expect(name, image_stays(refused_by(number), 210, 0, 21, 480, number));
+    }
+    expect("refused by 7: the list stays", list_stays(sample(), 0x100, 2, 80, 7));
+    expect("refused by 10: the list stays", list_stays(sample(), 0xA6, 2, 9, 10));
+    expect("refused by 11: the list stays", list_stays(sample(), 0xA6, 3, 80, 11));
+    expect("refused by 12: image and journal stay", image_stays(sample(), 209, 0, 20, 480, 12));
+    expect("refused by 13: image and journal stay", image_stays(sample(), 210, 0, 21, 479, 13));
+    expect("refused by 14: image and journal stay", image_stays(sample(), 210, 0, 22, 480, 14));
+}
+
+int main(void) {
+    code_fields();
+    word_fields();
+    list_and_card_fields();
+    pass_fields();
+    refusals_leave_buffers();
+    return finish();
+}

@@ -1,0 +1,72 @@
+/*
+ * Which bytes the archive writes. An answer over 16 bytes goes through a pointer that the caller hands over ahead of the
+ * arguments; here the functions are declared so, without desk.h, and asked with guards about the answer. A byte is
+ * written if it is the same afterwards, whatever was there before. layout.txt has the sizes.
+ */
+#include "cases.h"
+
+#include <stdint.h>
+#include <string.h>
+
+typedef struct Code {
+    uint16_t columns[64];
+    size_t k;
+    size_t r;
+} Code;
+
+void desk_row_balance(void *answer, Code code);
+void desk_write(void *answer, Code code, uint64_t data);
+void desk_read(void *answer, Code code, uint64_t data, uint16_t check);
+void desk_explain(void *answer, Code code, uint64_t data, uint16_t check, size_t limit, uint8_t *list, size_t length);
+void desk_cards(void *answer, Code code, size_t b);
+void desk_pass(void *answer, Code code, uint8_t *image, size_t image_length, size_t start, size_t end, uint8_t *journal,
+               size_t journal_length);
+
+static const Code sample = {.columns = {28, 26, 25, 22, 21, 19, 14, 13}, .k = 8, .r = 5};
+
+static void balance_to(void *answer) { desk_row_balance(answer, sample); }
+static void write_to(void *answer) { desk_write(answer, sample, 0xFF); }
+static void read_to(void *answer) { desk_read(answer, sample, 0xA6, 25); }
+static void cards_to(void *answer) { desk_cards(answer, sample, 3); }
+
+static void explain_to(void *answer) {
+    uint8_t list[80];
+    desk_explain(answer, sample, 0xA6, 27, 2, list, sizeof list);
+}
+
+static void pass_to(void *answer) {
+    uint8_t image[20] = {0xA4, 0, 0, 0, 0, 0, 0, 0, 27, 0, 0xA6, 0, 0, 0, 0, 0, 0, 0, 27, 0};
+    uint8_t journal[48];
+    desk_pass(answer, sample, image, sizeof image, 0, 2, journal, sizeof journal);
+}
+
+enum { GUARD = 64, LARGEST = 80 };
+
+/* Whether all of the first `used` bytes of the answer are written, and nothing outside its `size` bytes. */
+static int writes_only(void (*call)(void *), size_t used, size_t size) {
+    uint64_t low[(GUARD + LARGEST + GUARD) / 8], high[(GUARD + LARGEST + GUARD) / 8];
+    memset(low, 0x00, sizeof low);
+    memset(high, 0xFF, sizeof high);
+    uint8_t *low_bytes = (uint8_t *)low, *high_bytes = (uint8_t *)high;
+    call(low_bytes + GUARD);
+    call(high_bytes + GUARD);
+    for (size_t i = 0; i < sizeof low; i++) {
+        int is_written = low_bytes[i] == high_bytes[i];
+        int is_field = i >= GUARD && i < GUARD + used;
+        int is_outside = i < GUARD || i >= GUARD + size;
+        if ((is_field && !is_written) || (is_outside && is_written)) {
+            return 0;
+        }
+    }
+    return 1;
+}
+
+int main(void) {
+    expect("desk_row_balance writes all 80 bytes of its answer, and no other", writes_only(balance_to, 80, 80));
+    expect("desk_write writes 18 bytes of its 24, and no other", writes_only(write_to, 18, 24));
+    expect("desk_read writes 42 bytes of its 48, and no other", writes_only(read_to, 42, 48));
+    expect("desk_explain writes all 24 bytes of its answer, and no other", writes_only(explain_to, 24, 24));
+    expect("desk_cards writes all 32 bytes of its answer, and no other", writes_only(cards_to, 32, 32));
+    expect("desk_pass writes 28 bytes of its 32, and no other", writes_only(pass_to, 28, 32));
+    return finish();
+}

@@ -1,0 +1,167 @@
+/*
+ * The mending desk for callers in C and C++: one function for each question.
+ *
+ * Link target/staticlib/libdesk.a (x86-64, System V). It needs memcpy and memset, and nothing of the system.
+ * Every function is total: it answers any code and any numbers. A code is judged first, by every call.
+ * Lent buffers must be valid for their length; image and journal must not overlap. With length 0 any pointer will do.
+ *
+ * In every answer `number` is 0 (done) or the number of the refusal, and `told` is what goes with it:
+ * for 3 to 6 the place of the bad column, for 10 the length of the list, for 13 the entries needed, else 0.
+ * A refusal has 0 in every other field (9 has its card and mask) and changes no byte that was lent.
+ */
+#ifndef DESK_H
+#define DESK_H
+
+#include <stddef.h>
+#include <stdint.h>
+
+#if !defined(__x86_64__) || defined(__ILP32__)
+#error "libdesk.a is for x86-64"
+#endif
+
+#ifdef __cplusplus
+extern "C" {
+#endif
+
+/* The field `number` of an answer. */
+enum DeskNumber {
+    DESK_DONE = 0,             /* done */
+    DESK_DATA_BITS = 1,        /* k is 0 or over 64 */
+    DESK_CHECK_BITS = 2,       /* r below 3 or over 16 */
+    DESK_WIDE_COLUMN = 3,      /* a column is 2^r or more; told: its place */
+    DESK_EVEN_COLUMN = 4,      /* a column has an even count of ones, 0 included; told: its place */
+    DESK_SINGLE_ONE = 5,       /* a data column has a single one; told: its place */
+    DESK_REPEATED_COLUMN = 6,  /* a column equals an earlier data column; told: its place */
+    DESK_STRAY_BITS = 7,       /* a data bit at k or above, or a check bit at r or above, is set */
+    DESK_CARD_SIZE = 8,        /* b below 2 or over 8 */
+    DESK_WEAK_CARD = 9,        /* the code is not card-proof for b; card and mask say where */
+    DESK_LIST_ROOM = 10,       /* the list is longer than its room; told: its length */
+    DESK_FLIP_LIMIT = 11,      /* the flip limit is over 2 */
+    DESK_IMAGE_LENGTH = 12,    /* the image's length is no multiple of 10, or over 65,530 */
+    DESK_JOURNAL_ROOM = 13,    /* the journal has no room for the entries needed; told: how many */
+    DESK_RUN = 14              /* the run's start is above its end, or its end above the number of records */
+};
+
+/* The field `verdict` of a reading, the third byte of a journal entry, and the order of a tally. */
+enum DeskVerdict {
+    DESK_CLEAN = 0, /* nothing is wrong */
+    DESK_DATA = 1,  /* one data bit was flipped, and is mended */
+    DESK_CHECK = 2, /* one check bit was flipped, and is mended */
+    DESK_EVEN = 3,  /* an even syndrome: the word as read */
+    DESK_ODD = 4,   /* an odd syndrome that is no column: the word as read */
+    DESK_STRAY = 5  /* in a pass only: a bit past k or past r is set; the record stays */
+};
+
+#define DESK_NO_PLACE 255     /* the place of a reading or an entry that has none */
+#define DESK_COLUMNS 64       /* column places of a code */
+#define DESK_ROWS 16          /* rows of a balance */
+#define DESK_LONGEST_LIST 80  /* bytes that hold any list of explanations */
+#define DESK_RECORD 10        /* bytes of a record: data in 8, check bits in 2, low byte first */
+#define DESK_ENTRY 24         /* bytes of a journal entry: record number in 2, verdict, place, 10 as read, 10 as left */
+#define DESK_IMAGE 65530      /* bytes of the longest image */
+
+/* A code: k data columns, each with row j as its bit j, and r check bits. Places past k are ignored. */
+typedef struct DeskCode {
+    uint16_t columns[DESK_COLUMNS];
+    size_t k;
+    size_t r;
+} DeskCode;
+
+/* The answer of desk_check_bits: the check bits wanted. */
+typedef struct DeskCheckBits {
+    size_t number;
+    size_t bits;
+} DeskCheckBits;
+
+/* The answer of desk_judge. */
+typedef struct DeskJudgement {
+    size_t number;
+    size_t told;
+} DeskJudgement;
+
+/* The answer of desk_row_balance: rows at r or above are 0. */
+typedef struct DeskRowBalance {
+    size_t number;
+    size_t told;
+    int32_t rows[DESK_ROWS];
+} DeskRowBalance;
+
+/* The answer of desk_write: the check bits. */
+typedef struct DeskCheckWord {
+    size_t number;
+    size_t told;
+    uint16_t check;
+} DeskCheckWord;
+
+/* The answer of desk_read: a verdict (0 to 4), a place, and the word that is handed back. */
+typedef struct DeskReadWord {
+    size_t number;
+    size_t told;
+    size_t verdict;
+    size_t place;
+    uint64_t data;
+    uint16_t check;
+} DeskReadWord;
+
+/* The answer of desk_explain: the length of a done list, in entries. */
+typedef struct DeskListing {
+    size_t number;
+    size_t told;
+    size_t length;
+} DeskListing;
+
+/* The answer of desk_cards: with number 9 the first weak card, and on it the smallest weak mask. */
+typedef struct DeskCardCheck {
+    size_t number;
+    size_t told;
+    size_t card;
+    size_t mask;
+} DeskCardCheck;
+
+/* How many records of a run have each verdict. */
+typedef struct DeskTally {
+    uint16_t clean;
+    uint16_t data;
+    uint16_t check;
+    uint16_t even;
+    uint16_t odd;
+    uint16_t stray;
+} DeskTally;
+
+/* The answer of desk_pass. */
+typedef struct DeskPassAnswer {
+    size_t number;
+    size_t told;
+    DeskTally tally;
+} DeskPassAnswer;
+
+/* The smallest number of check bits for which a code of k data bits exists; refuses with 1. */
+DeskCheckBits desk_check_bits(size_t k);
+
+/* Whether this is a code; refuses with 1 to 6, as every question below does. */
+DeskJudgement desk_judge(DeskCode code);
+
+/* For each row: r times the ones in that row, less all ones of the matrix. */
+DeskRowBalance desk_row_balance(DeskCode code);
+
+/* The check bits that go with the data; refuses with 7. */
+DeskCheckWord desk_write(DeskCode code, uint64_t data);
+
+/* What is in the word as read, and the word mended where one flip explains it; refuses with 7. */
+DeskReadWord desk_read(DeskCode code, uint64_t data, uint16_t check);
+
+/* All sets of at most `limit` places that explain the word, into `list`, two bytes a set; refuses with 7, 11, 10. */
+DeskListing desk_explain(DeskCode code, uint64_t data, uint16_t check, size_t limit, uint8_t *list, size_t list_length);
+
+/* Whether every error of two or more bits within one card of b places is flagged; refuses with 8, 9. */
+DeskCardCheck desk_cards(DeskCode code, size_t b);
+
+/* Mends the records from `start` up to but not `end` and notes each that is not clean; refuses with 12, 14, 13. */
+DeskPassAnswer desk_pass(DeskCode code, uint8_t *image, size_t image_length, size_t start, size_t end, uint8_t *journal,
+                         size_t journal_length);
+
+#ifdef __cplusplus
+}
+#endif
+
+#endif

@@ -1,0 +1,192 @@
+//! The questions.
+
+use crate::{ffi, Code, Explanation, Reading, Refusal, Tally, Verdict, Word, LONGEST_LIST, NO_PLACE};
+use std::ops::Range;
+
+/// The answer where the number is 0, else the refusal that these numbers are.
+fn done<T>(number: usize, told: usize, answer: T) -> Result<T, Refusal> {
+    Refusal::answered(number, told, 0, 0).map_or(Ok(answer), Err)
+}
+
+/// The smallest number of check bits for which a code of `k` data bits exists.
+///
+/// ```
+/// assert_eq!(desk::check_bits_wanted(64), Ok(8));
+/// assert_eq!(desk::check_bits_wanted(65), Err(desk::Refusal::DataBits));
+/// ```
+pub fn check_bits_wanted(k: usize) -> Result<usize, Refusal> {
+    let answer = ffi::check_bits(k);
+    done(answer.number, 0, answer.bits)
+}
+
+impl Code {
+    /// The code of these data columns with `r` check bits, judged.
+    ///
+    /// ```
+    /// use desk::{Code, Refusal};
+    ///
+    /// assert!(Code::new(&[7, 11], 4).is_ok());
+    /// assert_eq!(Code::new(&[7, 12], 4), Err(Refusal::EvenColumn { place: 1 }));
+    /// assert_eq!(Code::new(&[7; 65], 4), Err(Refusal::DataBits));
+    /// ```
+    pub fn new(data_columns: &[u16], r: usize) -> Result<Code, Refusal> {
+        let mut code = Code { columns: [0; 64], k: data_columns.len(), r };
+        for (place, &column) in code.columns.iter_mut().zip(data_columns) {
+            *place = column;
+        }
+        code.judge()?;
+        Ok(code)
+    }
+
+    /// Is this a code? Every other question asks this first and refuses with the same.
+    ///
+    /// ```
+    /// use desk::{Code, Refusal};
+    ///
+    /// let by_hand = Code { columns: [0; 64], k: 8, r: 2 };
+    /// assert_eq!(by_hand.judge(), Err(Refusal::CheckBits));
+    /// assert_eq!(by_hand.write(1), Err(Refusal::CheckBits));
+    /// ```
+    pub fn judge(&self) -> Result<(), Refusal> {
+        let answer = ffi::judge(self);
+        done(answer.number, answer.told, ())
+    }
+
+    /// For each row: r times the ones in that row, less all ones of the matrix; 0 for rows at r or above.
+    ///
+    /// ```
+    /// # fn main() -> Result<(), desk::Refusal> {
+    /// let code = desk::Code::new(&[28, 26, 25, 22, 21, 19, 14, 13], 5)?;
+    /// assert_eq!(code.row_balance()?, [-4, -4, 1, 1, 6, 0, 0, 0, 0, 0, 0, 0, 0, 0, 0, 0]);
+    /// # Ok(())
+    /// # }
+    /// ```
+    pub fn row_balance(&self) -> Result<[i32; 16], Refusal> {
+        let answer = ffi::row_balance(self);
+        done(answer.number, answer.told, answer.rows)
+    }
+
+    /// The check bits that go with the data.
+    ///
+    /// ```
+    /// # fn main() -> Result<(), desk::Refusal> {
+    /// let code = desk::Code::new(&[28, 26, 25, 22, 21, 19, 14, 13], 5)?;
+    /// assert_eq!(code.write(0xFF), Ok(12));
+    /// assert_eq!(code.write(0x100), Err(desk::Refusal::StrayBits));
+    /// # Ok(())
+    /// # }
+    /// ```
+    pub fn write(&self, data: u64) -> Result<u16, Refusal> {
+        let answer = ffi::write(self, data);
+        done(answer.number, answer.told, answer.check)
+    }
+
+    /// What is in the word as read, and the word mended where one flip explains it.
+    ///
+    /// ```
+    /// use desk::{Code, Verdict, Word};
+    ///
+    /// # fn main() -> Result<(), desk::Refusal> {
+    /// let code = Code::new(&[28, 26, 25, 22, 21, 19, 14, 13], 5)?;
+    /// let reading = code.read(Word { data: 0xA5, check: 26 })?;
+    /// assert_eq!((reading.verdict, reading.place), (Verdict::Check, Some(8)));
+    /// assert_eq!(reading.word, Word { data: 0xA5, check: 27 });
+    /// # Ok(())
+    /// # }
+    /// ```
+    pub fn read(&self, word: Word) -> Result<Reading, Refusal> {
+        let answer = ffi::read(self, word.data, word.check);
+        done(answer.number, answer.told, ())?;
+        let verdict = Verdict::of(answer.verdict).expect("a verdict of the table");
+        let place = if answer.place == usize::from(NO_PLACE) { None } else { Some(answer.place) };
+        Ok(Reading { verdict, place, word: Word { data: answer.data, check: answer.check } })
+    }
+
+    /// All sets of at most `limit` places that explain the word: fewer places first, then the lower first place.
+    ///
+    /// ```
+    /// use desk::{Code, Explanation, Refusal, Word};
+    ///
+    /// # fn main() -> Result<(), Refusal> {
+    /// let code = Code::new(&[28, 26, 25, 22, 21, 19, 14, 13], 5)?;
+    /// assert_eq!(code.explain(Word { data: 0xA5, check: 27 }, 1)?, [Explanation::Nothing]);
+    /// assert_eq!(code.explain(Word { data: 0xA4, check: 27 }, 1)?, [Explanation::One(0)]);
+    /// assert_eq!(code.explain(Word { data: 0xA6, check: 27 }, 2)?.len(), 5);
+    /// assert_eq!(code.explain(Word { data: 0xA6, check: 27 }, 3), Err(Refusal::FlipLimit));
+    /// # Ok(())
+    /// # }
+    /// ```
+    pub fn explain(&self, word: Word, limit: usize) -> Result<Vec<Explanation>, Refusal> {
+        let mut list = [0; LONGEST_LIST];
+        let length = self.explain_into(word, limit, &mut list)?;
+        Ok(list.chunks_exact(2).take(length).map(|entry| Explanation::of([entry[0], entry[1]])).collect())
+    }
+
+    /// The same list into a lent buffer, two bytes an entry, 255 where there is no place; answers its length in entries.
+    ///
+    /// Bytes past the list stay, and a refusal writes nothing.
+    ///
+    /// ```
+    /// use desk::{Code, Refusal, Word};
+    ///
+    /// # fn main() -> Result<(), Refusal> {
+    /// let code = Code::new(&[28, 26, 25, 22, 21, 19, 14, 13], 5)?;
+    /// let word = Word { data: 0xA6, check: 27 };
+    /// let mut list = [0; 10];
+    /// assert_eq!(code.explain_into(word, 2, &mut list), Ok(5));
+    /// assert_eq!(list, [0, 1, 3, 12, 4, 5, 6, 11, 9, 10]);
+    /// assert_eq!(code.explain_into(word, 2, &mut list[..8]), Err(Refusal::ListRoom { length: 5 }));
+    /// # Ok(())
+    /// # }
+    /// ```
+    pub fn explain_into(&self, word: Word, limit: usize, list: &mut [u8]) -> Result<usize, Refusal> {
+        let answer = ffi::explain(self, word.data, word.check, limit, list);
+        done(answer.number, answer.told, answer.length)
+    }
+
+    /// Is every error of two or more bits within one card of `b` places flagged? If not, a weak card is told.
+    ///
+    /// ```
+    /// use desk::{Code, Refusal};
+    ///
+    /// # fn main() -> Result<(), Refusal> {
+    /// let code = Code::new(&[28, 26, 25, 22, 21, 19, 14, 13], 5)?;
+    /// assert_eq!(code.card_check(2), Ok(()));
+    /// assert_eq!(code.card_check(3), Err(Refusal::WeakCard { card: 1, mask: 7 }));
+    /// # Ok(())
+    /// # }
+    /// ```
+    pub fn card_check(&self, b: usize) -> Result<(), Refusal> {
+        let answer = ffi::cards(self, b);
+        Refusal::answered(answer.number, answer.told, answer.card, answer.mask).map_or(Ok(()), Err)
+    }
+
+    /// Passes over a run of the image's records, mends those with one flip, and notes each that is not clean.
+    ///
+    /// A record has [`RECORD`](crate::RECORD) bytes, an entry of the journal [`ENTRY`](crate::ENTRY). Bytes outside the
+    /// run and past the entries stay, and a refusal writes nothing.
+    ///
+    /// ```
+    /// use desk::{Code, Refusal, ENTRY};
+    ///
+    /// # fn main() -> Result<(), Refusal> {
+    /// let code = Code::new(&[28, 26, 25, 22, 21, 19, 14, 13], 5)?;
+    /// let mut image = [0xA4, 0, 0, 0, 0, 0, 0, 0, 27, 0, 0xA6, 0, 0, 0, 0, 0, 0, 0, 27, 0];
+    ///
+    /// // A pass with no journal tells how many entries it needs.
+    /// let refusal = code.pass(&mut image, 0..2, &mut []).unwrap_err();
+    /// assert_eq!(refusal, Refusal::JournalRoom { needed: 2 });
+    ///
+    /// let mut journal = vec![0; refusal.told() * ENTRY];
+    /// let tally = code.pass(&mut image, 0..2, &mut journal)?;
+    /// assert_eq!((tally.data, tally.even, tally.entries()), (1, 1, 2));
+    /// assert_eq!(image[0], 0xA5);
+    /// assert_eq!(journal[24..28], [1, 0, 3, 255]);
+    /// # Ok(())
+    /// # }
+    /// ```
+    pub fn pass(&self, image: &mut [u8], run: Range<usize>, journal: &mut [u8]) -> Result<Tally, Refusal> {
+        let answer = ffi::pass(self, image, run.start, run.end, journal);
+        done(answer.number, answer.told, answer.tally)
+    }
+}

@@ -1,0 +1,204 @@
+//! The archive as it is: a safe function for each exported one, with plain numbers in and out.
+//!
+//! `include/desk.h` says the same for C. In every answer `number` is 0 (done) or the number of the refusal, and `told`
+//! is what goes with it: for 3 to 6 the place of the bad column, for 10 the length of the list, for 13 the entries
+//! needed, else 0. A refusal has 0 in every other field (9 has its card and mask) and changes no byte that was lent.
+//!
+//! This is the only module with `unsafe`.
+#![allow(unsafe_code)]
+
+/// A code as it is handed about: `k` data columns, each with row j as its bit j, and `r` check bits.
+///
+/// Nothing about it is trusted: every question judges it first. Column places past `k` are ignored.
+#[repr(C)]
+#[derive(Clone, Copy, PartialEq, Eq, Hash, Debug)]
+pub struct Code {
+    /// The data columns, then anything.
+    pub columns: [u16; 64],
+    /// How many data bits, 1 to 64.
+    pub k: usize,
+    /// How many check bits, 3 to 16.
+    pub r: usize,
+}
+
+/// How many records of a run have each verdict.
+#[repr(C)]
+#[derive(Clone, Copy, PartialEq, Eq, Hash, Debug, Default)]
+pub struct Tally {
+    /// Verdict 0.
+    pub clean: u16,
+    /// Verdict 1.
+    pub data: u16,
+    /// Verdict 2.
+    pub check: u16,
+    /// Verdict 3.
+    pub even: u16,
+    /// Verdict 4.
+    pub odd: u16,
+    /// Verdict 5.
+    pub stray: u16,
+}
+
+/// The answer of [`check_bits`].
+#[repr(C)]
+#[derive(Clone, Copy, PartialEq, Eq, Debug, Default)]
+pub struct CheckBits {
+    /// 0, or the number of the refusal.
+    pub number: usize,
+    /// The check bits wanted.
+    pub bits: usize,
+}
+
+/// The answer of [`judge`].
+#[repr(C)]
+#[derive(Clone, Copy, PartialEq, Eq, Debug, Default)]
+pub struct Judgement {
+    /// 0, or the number of the refusal.
+    pub number: usize,
+    /// What goes with the number.
+    pub told: usize,
+}
+
+/// The answer of [`row_balance`].
+#[repr(C)]
+#[derive(Clone, Copy, PartialEq, Eq, Debug, Default)]
+pub struct RowBalance {
+    /// 0, or the number of the refusal.
+    pub number: usize,
+    /// What goes with the number.
+    pub told: usize,
+    /// The balance of each row, 0 for rows at r or above.
+    pub rows: [i32; 16],
+}
+
+/// The answer of [`write`](fn@write).
+#[repr(C)]
+#[derive(Clone, Copy, PartialEq, Eq, Debug, Default)]
+pub struct CheckWord {
+    /// 0, or the number of the refusal.
+    pub number: usize,
+    /// What goes with the number.
+    pub told: usize,
+    /// The check bits.
+    pub check: u16,
+}
+
+/// The answer of [`read`].
+#[repr(C)]
+#[derive(Clone, Copy, PartialEq, Eq, Debug, Default)]
+pub struct ReadWord {
+    /// 0, or the number of the refusal.
+    pub number: usize,
+    /// What goes with the number.
+    pub told: usize,
+    /// The verdict, 0 to 4.
+    pub verdict: usize,
+    /// The flipped place, 255 for none.
+    pub place: usize,
+    /// The data handed back.
+    pub data: u64,
+    /// The check bits handed back.
+    pub check: u16,
+}
+
+/// The answer of [`explain`].
+#[repr(C)]
+#[derive(Clone, Copy, PartialEq, Eq, Debug, Default)]
+pub struct Listing {
+    /// 0, or the number of the refusal.
+    pub number: usize,
+    /// What goes with the number.
+    pub told: usize,
+    /// The length of a done list, in entries.
+    pub length: usize,
+}
+
+/// The answer of [`cards`].
+#[repr(C)]
+#[derive(Clone, Copy, PartialEq, Eq, Debug, Default)]
+pub struct CardCheck {
+    /// 0, or the number of the refusal.
+    pub number: usize,
+    /// What goes with the number.
+    pub told: usize,
+    /// With number 9, the first weak card.
+    pub card: usize,
+    /// With number 9, the smallest weak mask on that card.
+    pub mask: usize,
+}
+
+/// The answer of [`pass`].
+#[repr(C)]
+#[derive(Clone, Copy, PartialEq, Eq, Debug, Default)]
+pub struct PassAnswer {
+    /// 0, or the number of the refusal.
+    pub number: usize,
+    /// What goes with the number.
+    pub told: usize,
+    /// The counts of the run.
+    pub tally: Tally,
+}
+
+extern "C" {
+    fn desk_check_bits(k: usize) -> CheckBits;
+    fn desk_judge(code: Code) -> Judgement;
+    fn desk_row_balance(code: Code) -> RowBalance;
+    fn desk_write(code: Code, data: u64) -> CheckWord;
+    fn desk_read(code: Code, data: u64, check: u16) -> ReadWord;
+    fn desk_explain(code: Code, data: u64, check: u16, limit: usize, list: *mut u8, list_length: usize) -> Listing;
+    fn desk_cards(code: Code, b: usize) -> CardCheck;
+    fn desk_pass(
+        code: Code,
+        image: *mut u8,
+        image_length: usize,
+        start: usize,
+        end: usize,
+        journal: *mut u8,
+        journal_length: usize,
+    ) -> PassAnswer;
+}
+
+// Why the calls below are safe: each function is total and asks nothing of its numbers; a lent slice is live, its
+// length is its own, and two slices lent at once are apart because both are `&mut`.
+
+/// The smallest number of check bits for which a code of `k` data bits exists; refuses with 1.
+pub fn check_bits(k: usize) -> CheckBits {
+    unsafe { desk_check_bits(k) }
+}
+
+/// Whether this is a code; refuses with 1 to 6, as every question below does.
+pub fn judge(code: &Code) -> Judgement {
+    unsafe { desk_judge(*code) }
+}
+
+/// For each row: r times the ones in that row, less all ones of the matrix.
+pub fn row_balance(code: &Code) -> RowBalance {
+    unsafe { desk_row_balance(*code) }
+}
+
+/// The check bits that go with the data; refuses with 7.
+pub fn write(code: &Code, data: u64) -> CheckWord {
+    unsafe { desk_write(*code, data) }
+}
+
+/// What is in the word as read, and the word mended where one flip explains it; refuses with 7.
+pub fn read(code: &Code, data: u64, check: u16) -> ReadWord {
+    unsafe { desk_read(*code, data, check) }
+}
+
+/// All sets of at most `limit` places that explain the word, into `list`, two bytes a set; refuses with 7, 11, 10.
+pub fn explain(code: &Code, data: u64, check: u16, limit: usize, list: &mut [u8]) -> Listing {
+    unsafe { desk_explain(*code, data, check, limit, list.as_mut_ptr(), list.len()) }
+}
+
+/// Whether every error of two or more bits within one card of `b` places is flagged; refuses with 8, 9.
+pub fn cards(code: &Code, b: usize) -> CardCheck {
+    unsafe { desk_cards(*code, b) }
+}
+
+/// Mends the records from `start` up to but not `end` and notes each that is not clean; refuses with 12, 14, 13.
+pub fn pass(code: &Code, image: &mut [u8], start: usize, end: usize, journal: &mut [u8]) -> PassAnswer {
+    unsafe {
+        desk_pass(*code, image.as_mut_ptr(), image.len(), start, end, journal.as_mut_ptr(), journal.len())
+    }
+}

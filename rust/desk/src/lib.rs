@@ -1,0 +1,63 @@
+//! The mending desk: single-error-correcting, double-error-detecting codes with columns of odd weight.
+//!
+//! A safe wrapper of `libdesk.a`, whose functions are written in Rattle and proved: every answer, every refusal and
+//! every byte of a lent buffer is stated by a definition. Each question is a function here or a method of [`Code`], and
+//! answers a [`Result`] whose error is a [`Refusal`], with its number and what it tells.
+//!
+//! ```
+//! use desk::{Code, Explanation, Refusal, Verdict, Word};
+//!
+//! # fn main() -> Result<(), Refusal> {
+//! let code = Code::new(&[28, 26, 25, 22, 21, 19, 14, 13], 5)?;
+//! assert_eq!(code.write(0xA5)?, 27);
+//!
+//! // One flip is found and mended.
+//! let reading = code.read(Word { data: 0xA4, check: 27 })?;
+//! assert_eq!(reading.verdict, Verdict::Data);
+//! assert_eq!(reading.place, Some(0));
+//! assert_eq!(reading.word, Word { data: 0xA5, check: 27 });
+//!
+//! // Two flips are found, and explained.
+//! let twice = Word { data: 0xA6, check: 27 };
+//! assert_eq!(code.read(twice)?.verdict, Verdict::Even);
+//! assert_eq!(code.explain(twice, 2)?[0], Explanation::Two(0, 1));
+//!
+//! // A refusal says what is wrong.
+//! let refusal = Code::new(&[28, 28], 5).unwrap_err();
+//! assert_eq!(refusal, Refusal::RepeatedColumn { place: 1 });
+//! assert_eq!((refusal.number(), refusal.told()), (6, 1));
+//! assert_eq!(refusal.to_string(), "refused 6: column 1 equals an earlier one");
+//! # Ok(())
+//! # }
+//! ```
+//!
+//! Those who want the plain numbers of the archive find them in [`ffi`].
+#![deny(missing_docs, unsafe_code)]
+
+pub mod ffi;
+
+mod code;
+mod refusal;
+mod tally;
+mod word;
+
+pub use code::check_bits_wanted;
+pub use ffi::{Code, Tally};
+pub use refusal::Refusal;
+pub use word::{Explanation, Reading, Verdict, Word};
+
+/// Bytes of a record: data in 8, check bits in 2, low byte first.
+pub const RECORD: usize = 10;
+/// Bytes of a journal entry: record number in 2 (low byte first), verdict, place, 10 bytes as read, 10 as left.
+pub const ENTRY: usize = 24;
+/// Bytes of the longest image.
+pub const IMAGE: usize = 65_530;
+/// Bytes that hold any list of explanations.
+pub const LONGEST_LIST: usize = 80;
+/// The place that stands in an entry or in a list where there is none.
+pub const NO_PLACE: u8 = 255;
+
+/// The page on calling the desk: its Rust blocks are run as examples of this crate.
+#[cfg(doctest)]
+#[doc = include_str!("../../../docs/CALLING.md")]
+struct Calling;

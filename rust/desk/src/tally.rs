@@ -1,0 +1,27 @@
+//! What a tally says.
+
+use crate::{Tally, Verdict};
+
+impl Tally {
+    /// How many records of the run have this verdict.
+    pub fn count(&self, verdict: Verdict) -> u16 {
+        match verdict {
+            Verdict::Clean => self.clean,
+            Verdict::Data => self.data,
+            Verdict::Check => self.check,
+            Verdict::Even => self.even,
+            Verdict::Odd => self.odd,
+            Verdict::Stray => self.stray,
+        }
+    }
+
+    /// How many entries the pass wrote: one for each record that is not clean.
+    ///
+    /// ```
+    /// let tally = desk::Tally { clean: 7, data: 2, even: 1, ..Default::default() };
+    /// assert_eq!(tally.entries(), 3);
+    /// ```
+    pub fn entries(&self) -> usize {
+        Verdict::ALL[1..].iter().map(|&verdict| usize::from(self.count(verdict))).sum()
+    }
+}

@@ -1,0 +1,38 @@
+//! The layout of every struct as Rust has it, against c/layout.txt, which the C compiler is held to as well.
+
+use desk::ffi::*;
+use std::mem::{align_of, size_of, size_of_val};
+
+/// The lines of a struct: its size, then each of its fields.
+macro_rules! lines {
+    ($name:ident { $($field:ident),* } of $value:expr) => {{
+        let value: $name = $value;
+        let $name { $($field: _),* } = value;
+        let start = &value as *const $name as usize;
+        let mut lines = vec![format!("{} size {} align {}", stringify!($name), size_of::<$name>(), align_of::<$name>())];
+        $({
+            let at = &value.$field as *const _ as usize - start;
+            let size = size_of_val(&value.$field);
+            lines.push(format!("{}.{} at {} size {}", stringify!($name), stringify!($field), at, size));
+        })*
+        lines
+    }};
+}
+
+#[test]
+fn rust_lays_out_every_struct_as_c_does() {
+    let lines = [
+        lines!(Code { columns, k, r } of Code { columns: [0; 64], k: 0, r: 0 }),
+        lines!(CheckBits { number, bits } of Default::default()),
+        lines!(Judgement { number, told } of Default::default()),
+        lines!(RowBalance { number, told, rows } of Default::default()),
+        lines!(CheckWord { number, told, check } of Default::default()),
+        lines!(ReadWord { number, told, verdict, place, data, check } of Default::default()),
+        lines!(Listing { number, told, length } of Default::default()),
+        lines!(CardCheck { number, told, card, mask } of Default::default()),
+        lines!(Tally { clean, data, check, even, odd, stray } of Default::default()),
+        lines!(PassAnswer { number, told, tally } of Default::default()),
+    ];
+    let expected: Vec<&str> = include_str!("../../../c/layout.txt").lines().collect();
+    assert_eq!(lines.concat(), expected);
+}

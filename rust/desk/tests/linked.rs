@@ -1,0 +1,136 @@
+//! What the archive does, seen from Rust: every field of every answer, and the lent bytes that it must leave.
+
+mod common;
+
+use common::*;
+use desk::ffi::*;
+
+/// The sample with the column at place 5 equal to that at place 4: refused by 6, told 5.
+fn repeated() -> Code {
+    let mut code = sample();
+    code.columns[5] = code.columns[4];
+    code
+}
+
+/// The sample spoiled in such a way that it is refused by this number, 1 to 6.
+fn refused_by(number: usize) -> Code {
+    let mut code = sample();
+    match number {
+        1 => code.k = 0,
+        2 => code.r = 2,
+        3 => code.columns[7] = 32,
+        4 => code.columns[7] = 12,
+        5 => code.columns[7] = 16,
+        _ => code.columns[7] = 28,
+    }
+    code
+}
+
+/// A record of each verdict as often as its number and one more: the tally is 1, 2, 3, 4, 5, 6.
+fn every_verdict() -> Vec<u8> {
+    let words = [(0xA5, 27), (0xA4, 27), (0xA5, 26), (0xA6, 27), (0xA6, 26), (0x100, 0)];
+    words.iter().enumerate().flat_map(|(verdict, &(data, check))| record(data, check).repeat(verdict + 1)).collect()
+}
+
+fn tally(counts: [u16; 6]) -> Tally {
+    let [clean, data, check, even, odd, stray] = counts;
+    Tally { clean, data, check, even, odd, stray }
+}
+
+#[test]
+fn check_bits_and_judge() {
+    assert_eq!(check_bits(64), CheckBits { number: 0, bits: 8 });
+    assert_eq!(check_bits(65), CheckBits { number: 1, bits: 0 });
+    assert_eq!(judge(&sample()), Judgement { number: 0, told: 0 });
+    assert_eq!(judge(&repeated()), Judgement { number: 6, told: 5 });
+}
+
+#[test]
+fn every_row_of_a_balance() {
+    let columns = [
+        0xAF08, 0xD0C0, 0xDE02, 0xE868, 0xEB04, 0xEE10, 0xF680, 0xF6A8, 0xF970, 0xFA80, 0xFB60, 0xFBC0, 0xFC80, 0xFC8C,
+        0xFD88, 0xFF40, 0xFFC4,
+    ];
+    let rows = [-135, -119, -87, -55, -103, -71, -23, 9, -7, 41, 25, 89, 73, 105, 121, 137];
+    assert_eq!(row_balance(&code_of(&columns, 16)), RowBalance { number: 0, told: 0, rows });
+    assert_eq!(row_balance(&repeated()), RowBalance { number: 6, told: 5, rows: [0; 16] });
+}
+
+#[test]
+fn writing_and_reading() {
+    assert_eq!(write(&sample(), 0xFF), CheckWord { number: 0, told: 0, check: 12 });
+    assert_eq!(write(&repeated(), 0xFF), CheckWord { number: 6, told: 5, check: 0 });
+    let back = ReadWord { number: 0, told: 0, verdict: 2, place: 10, data: 0xA6, check: 29 };
+    assert_eq!(read(&sample(), 0xA6, 25), back);
+    assert_eq!(read(&repeated(), 0xA6, 25), ReadWord { number: 6, told: 5, ..ReadWord::default() });
+
+    let data = 0x8877_6655_4433_2211;
+    let check = write(&full(8), data).check;
+    let back = ReadWord { number: 0, told: 0, verdict: 1, place: 63, data, check };
+    assert_eq!(read(&full(8), data ^ 1 << 63, check), back);
+}
+
+#[test]
+fn lists_and_cards() {
+    assert_eq!(explain(&sample(), 0xA6, 27, 2, &mut [0; 80]), Listing { number: 0, told: 0, length: 5 });
+    assert_eq!(explain(&sample(), 0xA6, 27, 2, &mut []), Listing { number: 10, told: 5, length: 0 });
+    assert_eq!(cards(&sample(), 3), CardCheck { number: 9, told: 0, card: 1, mask: 7 });
+    assert_eq!(cards(&repeated(), 3), CardCheck { number: 6, told: 5, card: 0, mask: 0 });
+}
+
+#[test]
+fn a_pass() {
+    let mut image = every_verdict();
+    let refused = PassAnswer { number: 13, told: 20, tally: Tally::default() };
+    assert_eq!(pass(&sample(), &mut image, 0, 21, &mut []), refused);
+
+    let mut journal = vec![0xEE; 20 * 24 + 7];
+    let done = PassAnswer { number: 0, told: 0, tally: tally([1, 2, 3, 4, 5, 6]) };
+    assert_eq!(pass(&sample(), &mut image, 0, 21, &mut journal), done);
+    assert_eq!(journal[20 * 24..], [0xEE; 7]);
+
+    let again = PassAnswer { number: 0, told: 0, tally: tally([6, 0, 0, 4, 5, 6]) };
+    assert_eq!(pass(&sample(), &mut image, 0, 21, &mut journal), again);
+}
+
+#[test]
+fn bytes_outside_the_run_stay() {
+    let before = every_verdict();
+    let mut image = before.clone();
+    let answer = pass(&sample(), &mut image, 2, 5, &mut [0; 24 * 3]);
+    assert_eq!(answer.tally, tally([0, 1, 2, 0, 0, 0]));
+    assert_eq!(image[..20], before[..20]);
+    assert_eq!(image[20..50], record(0xA5, 27).repeat(3));
+    assert_eq!(image[50..], before[50..]);
+}
+
+#[test]
+fn a_refused_list_is_left_as_it_was() {
+    let stays = |code: Code, data: u64, limit: usize, room: usize, number: usize| {
+        let mut list = [0xEE; 80];
+        let answer = explain(&code, data, 27, limit, &mut list[..room]);
+        assert_eq!((answer.number, answer.length, list), (number, 0, [0xEE; 80]));
+    };
+    for number in 1..=6 {
+        stays(refused_by(number), 0xA6, 2, 80, number);
+    }
+    stays(sample(), 0x100, 2, 80, 7);
+    stays(sample(), 0xA6, 2, 9, 10);
+    stays(sample(), 0xA6, 3, 80, 11);
+}
+
+#[test]
+fn a_refused_image_and_its_journal_are_left_as_they_were() {
+    let stays = |code: Code, length: usize, end: usize, room: usize, number: usize| {
+        let (mut image, mut journal) = (every_verdict(), vec![0xEE; 480]);
+        let answer = pass(&code, &mut image[..length], 0, end, &mut journal[..room]);
+        assert_eq!((answer.number, answer.tally), (number, Tally::default()));
+        assert_eq!((image, journal), (every_verdict(), vec![0xEE; 480]));
+    };
+    for number in 1..=6 {
+        stays(refused_by(number), 210, 21, 480, number);
+    }
+    stays(sample(), 209, 20, 480, 12);
+    stays(sample(), 210, 21, 479, 13);
+    stays(sample(), 210, 22, 480, 14);
+}

@@ -1,0 +1,88 @@
+//! Each refusal through the wrapper: the case, its number and what it tells.
+
+mod common;
+
+use common::*;
+use desk::{check_bits_wanted, Code, Refusal, Word};
+
+/// The sample with this column at place 3.
+fn with_column(column: u16) -> Code {
+    let mut code = sample();
+    code.columns[3] = column;
+    code
+}
+
+/// Every refusal of the table, each from a question.
+fn all() -> Vec<Refusal> {
+    let word = Word { data: 0xA6, check: 27 };
+    let mut image = [record(0xA4, 27), record(0xA6, 27)].concat();
+    let none = &mut [];
+    vec![
+        check_bits_wanted(0).unwrap_err(),
+        Code { r: 17, ..sample() }.judge().unwrap_err(),
+        with_column(32).row_balance().unwrap_err(),
+        with_column(12).write(1).unwrap_err(),
+        with_column(16).read(word).unwrap_err(),
+        with_column(28).explain(word, 2).unwrap_err(),
+        sample().read(Word { data: 0, check: 32 }).unwrap_err(),
+        sample().card_check(9).unwrap_err(),
+        sample().card_check(3).unwrap_err(),
+        sample().explain_into(word, 2, &mut [0; 8]).unwrap_err(),
+        sample().explain(word, 3).unwrap_err(),
+        sample().pass(&mut image[..19], 0..1, none).unwrap_err(),
+        sample().pass(&mut image, 0..2, none).unwrap_err(),
+        sample().pass(&mut image, 0..3, none).unwrap_err(),
+    ]
+}
+
+#[test]
+fn every_refusal_has_its_case() {
+    let expected = [
+        Refusal::DataBits,
+        Refusal::CheckBits,
+        Refusal::WideColumn { place: 3 },
+        Refusal::EvenColumn { place: 3 },
+        Refusal::SingleOne { place: 3 },
+        Refusal::RepeatedColumn { place: 3 },
+        Refusal::StrayBits,
+        Refusal::CardSize,
+        Refusal::WeakCard { card: 1, mask: 7 },
+        Refusal::ListRoom { length: 5 },
+        Refusal::FlipLimit,
+        Refusal::ImageLength,
+        Refusal::JournalRoom { needed: 2 },
+        Refusal::Run,
+    ];
+    assert_eq!(all(), expected);
+}
+
+#[test]
+fn every_refusal_has_its_number_and_tells_what_the_table_says() {
+    let told = [0, 0, 3, 3, 3, 3, 0, 0, 0, 5, 0, 0, 2, 0];
+    for (at, refusal) in all().into_iter().enumerate() {
+        assert_eq!((refusal.number(), refusal.told()), (at + 1, told[at]));
+        assert!(refusal.to_string().starts_with(&format!("refused {}: ", at + 1)));
+    }
+}
+
+#[test]
+fn a_code_is_judged_by_every_question() {
+    let code = with_column(12);
+    let refusal = Refusal::EvenColumn { place: 3 };
+    let word = Word::default();
+    assert_eq!(code.judge(), Err(refusal));
+    assert_eq!(code.row_balance(), Err(refusal));
+    assert_eq!(code.write(0), Err(refusal));
+    assert_eq!(code.read(word), Err(refusal));
+    assert_eq!(code.explain(word, 3), Err(refusal));
+    assert_eq!(code.explain_into(word, 3, &mut []), Err(refusal));
+    assert_eq!(code.card_check(9), Err(refusal));
+    assert_eq!(code.pass(&mut [0], 1..0, &mut []), Err(refusal));
+    assert_eq!(Code::new(&code.columns[..8], 5), Err(refusal));
+}
+
+#[test]
+fn a_refusal_is_an_error() {
+    let error: Box<dyn std::error::Error> = Box::new(Refusal::WeakCard { card: 1, mask: 7 });
+    assert_eq!(error.to_string(), "refused 9: card 1 is weak at mask 7");
+}
