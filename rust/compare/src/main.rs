@@ -1,1 +1,122 @@
-fn main() {}
+//! The comparison: the same cases to the second program and to the linked desk, every number and every byte.
+//!
+//! `compare gate`: every question of the archive, by its own numbers and through the wrapper.
+//! `compare mend`: the program, on whole images.
+//! `--times N` goes over the gate's amounts N times, each from a seed of its own; `--seed S` names the first seed.
+
+mod desks;
+mod program;
+
+use desks::{Archive, Wrapper};
+use second::{compare, Amounts, Desk, Second};
+use std::process;
+use std::time::Instant;
+
+const USAGE: &str = "compare gate | mend  [--times N] [--seed S]";
+
+/// What is asked on the command line.
+struct Asked {
+    question: String,
+    times: u64,
+    seed: u64,
+}
+
+fn asked(mut words: impl Iterator<Item = String>) -> Option<Asked> {
+    let mut asked = Asked { question: words.next()?, times: 1, seed: Amounts::GATE.seed };
+    while let Some(flag) = words.next() {
+        let number = words.next()?.parse().ok()?;
+        match flag.as_str() {
+            "--times" => asked.times = number,
+            "--seed" => asked.seed = number,
+            _ => return None,
+        }
+    }
+    Some(asked)
+}
+
+/// How many cases agreed, and how many did not.
+#[derive(Default)]
+struct Counts {
+    passed: usize,
+    failed: usize,
+}
+
+impl Counts {
+    /// Compares the desks over these cases, of which some questions may have none.
+    fn compare(&mut self, desks: &[&dyn Desk], amounts: &Amounts, wanted: impl Fn(&str) -> bool) {
+        match compare(desks, amounts) {
+            Ok(lines) => {
+                for line in lines.iter().filter(|line| wanted(line.question)) {
+                    println!("{}", line);
+                    self.passed += line.cases;
+                }
+            }
+            Err(difference) => {
+                println!("{}", difference);
+                self.failed += 1;
+            }
+        }
+    }
+
+    /// One printed case.
+    fn expect(&mut self, name: &str, text: &str, expected: &str) {
+        if text == expected {
+            println!("ok   {}", name);
+            self.passed += 1;
+        } else {
+            println!("FAIL {}: prints {:?}, expected {:?}", name, text, expected);
+            self.failed += 1;
+        }
+    }
+}
+
+/// Every question of the archive.
+fn gate(asked: &Asked, counts: &mut Counts) {
+    let desks: [&dyn Desk; 3] = [&Second, &Archive, &Wrapper];
+    for seed in asked.seed..asked.seed + asked.times {
+        println!("seed {}: second, archive, wrapper", seed);
+        let amounts = Amounts { seed, inputs: 0, ..Amounts::GATE };
+        counts.compare(&desks, &amounts, |question| question != "mend");
+    }
+}
+
+/// The program on the worked image, on edges, and on whole images.
+fn mend(asked: &Asked, counts: &mut Counts) {
+    if !program::is_there() {
+        println!("FAIL there is no script mend at the top of the repository: the program cannot be compared");
+        counts.failed += 1;
+        return;
+    }
+    let image = [0xA4, 0, 0, 0, 0, 0, 0, 0, 27, 0, 0xA6, 0, 0, 0, 0, 0, 0, 0, 27, 0];
+    let text = "0 1 0\n1 3 255\nclean 0 data 1 check 0 even 1 odd 0 stray 0\n";
+    counts.expect("mend: the worked image", &program::mend(&image), text);
+    for bytes in [0, 1, 9, 10, 11, 65_520, 65_529, 65_530, 65_531, 65_536, 65_540, 131_060, 1_000_000] {
+        let input = vec![0; bytes];
+        counts.expect(&format!("mend: {} bytes of 0", bytes), &program::mend(&input), &second::mend(&input));
+    }
+    let none = Amounts { codes: 0, words: 0, lists: 0, cards: 0, images: 0, ..Amounts::GATE };
+    for seed in asked.seed..asked.seed + asked.times {
+        println!("seed {}: second, program", seed);
+        counts.compare(&[&Second, &Archive], &Amounts { seed, ..none }, |question| question == "mend");
+    }
+}
+
+fn main() {
+    let asked = asked(std::env::args().skip(1)).unwrap_or_else(|| {
+        eprintln!("{}", USAGE);
+        process::exit(2)
+    });
+    let begin = Instant::now();
+    let mut counts = Counts::default();
+    match asked.question.as_str() {
+        "gate" => gate(&asked, &mut counts),
+        "mend" => mend(&asked, &mut counts),
+        _ => {
+            eprintln!("{}", USAGE);
+            process::exit(2)
+        }
+    }
+    println!("compared in {:.1} s", begin.elapsed().as_secs_f64());
+    println!("{} passed, {} failed", counts.passed, counts.failed);
+    process::exit(i32::from(counts.failed > 0));
+}

@@ -198,7 +198,5 @@ pub fn cards(code: &Code, b: usize) -> CardCheck {
 
 /// Mends the records from `start` up to but not `end` and notes each that is not clean; refuses with 12, 14, 13.
 pub fn pass(code: &Code, image: &mut [u8], start: usize, end: usize, journal: &mut [u8]) -> PassAnswer {
-    unsafe {
-        desk_pass(*code, image.as_mut_ptr(), image.len(), start, end, journal.as_mut_ptr(), journal.len())
-    }
+    unsafe { desk_pass(*code, image.as_mut_ptr(), image.len(), start, end, journal.as_mut_ptr(), journal.len()) }
 }

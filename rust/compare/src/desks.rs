@@ -1,0 +1,137 @@
+//! The linked desk as the second program's questions have it: by the archive's own numbers, and through the wrapper.
+
+use crate::program;
+use desk::{ffi, Word};
+use second::{Balanced, CardsChecked, Code, Desk, Explained, Judged, Passed, Reading, Refusal, Wanted, Written};
+
+/// The same code for the linked desk.
+fn linked(code: &Code) -> desk::Code {
+    desk::Code { columns: code.columns, k: code.k, r: code.r }
+}
+
+/// The counts of a tally in the order of verdicts.
+fn counts(tally: desk::Tally) -> [usize; 6] {
+    [tally.clean, tally.data, tally.check, tally.even, tally.odd, tally.stray].map(usize::from)
+}
+
+/// The archive: every field of every answer, refused ones too.
+pub struct Archive;
+
+impl Desk for Archive {
+    fn name(&self) -> &'static str {
+        "archive"
+    }
+
+    fn wanted(&self, k: usize) -> Wanted {
+        let ffi::CheckBits { number, bits } = ffi::check_bits(k);
+        Wanted { number, check_bits: bits }
+    }
+
+    fn judge(&self, code: &Code) -> Judged {
+        let ffi::Judgement { number, told } = ffi::judge(&linked(code));
+        Judged { number, told }
+    }
+
+    fn row_balance(&self, code: &Code) -> Balanced {
+        let ffi::RowBalance { number, told, rows } = ffi::row_balance(&linked(code));
+        Balanced { number, told, rows }
+    }
+
+    fn write(&self, code: &Code, data: u64) -> Written {
+        let ffi::CheckWord { number, told, check } = ffi::write(&linked(code), data);
+        Written { number, told, check }
+    }
+
+    fn read(&self, code: &Code, data: u64, check: u16) -> Reading {
+        let ffi::ReadWord { number, told, verdict, place, data, check } = ffi::read(&linked(code), data, check);
+        Reading { number, told, verdict, place, data, check }
+    }
+
+    fn explain(&self, code: &Code, data: u64, check: u16, limit: usize, list: &mut [u8]) -> Explained {
+        let ffi::Listing { number, told, length } = ffi::explain(&linked(code), data, check, limit, list);
+        Explained { number, told, length }
+    }
+
+    fn card_check(&self, code: &Code, b: usize) -> CardsChecked {
+        let ffi::CardCheck { number, told, card, mask } = ffi::cards(&linked(code), b);
+        CardsChecked { number, told, card, mask }
+    }
+
+    fn pass(&self, code: &Code, image: &mut [u8], start: usize, end: usize, journal: &mut [u8]) -> Passed {
+        let ffi::PassAnswer { number, told, tally } = ffi::pass(&linked(code), image, start, end, journal);
+        Passed { number, told, tally: counts(tally) }
+    }
+
+    fn mend(&self, input: &[u8]) -> String {
+        program::mend(input)
+    }
+}
+
+/// The wrapper: its numbers must be the archive's, with nothing lost.
+pub struct Wrapper;
+
+/// A refusal of the wrapper by its numbers.
+fn refused(refusal: desk::Refusal) -> Refusal {
+    Refusal { number: refusal.number(), told: refusal.told() }
+}
+
+impl Desk for Wrapper {
+    fn name(&self) -> &'static str {
+        "wrapper"
+    }
+
+    fn wanted(&self, k: usize) -> Wanted {
+        match desk::check_bits_wanted(k) {
+            Ok(check_bits) => Wanted { number: 0, check_bits },
+            Err(refusal) => Wanted { number: refusal.number(), check_bits: refusal.told() },
+        }
+    }
+
+    fn judge(&self, code: &Code) -> Judged {
+        linked(code).judge().map_or_else(|refusal| refused(refusal).into(), |()| Judged::default())
+    }
+
+    fn row_balance(&self, code: &Code) -> Balanced {
+        let done = |rows| Balanced { rows, ..Balanced::default() };
+        linked(code).row_balance().map_or_else(|refusal| refused(refusal).into(), done)
+    }
+
+    fn write(&self, code: &Code, data: u64) -> Written {
+        let done = |check| Written { check, ..Written::default() };
+        linked(code).write(data).map_or_else(|refusal| refused(refusal).into(), done)
+    }
+
+    fn read(&self, code: &Code, data: u64, check: u16) -> Reading {
+        let done = |reading: desk::Reading| Reading {
+            verdict: reading.verdict.number(),
+            place: reading.place.unwrap_or(255),
+            data: reading.word.data,
+            check: reading.word.check,
+            ..Reading::default()
+        };
+        linked(code).read(Word { data, check }).map_or_else(|refusal| refused(refusal).into(), done)
+    }
+
+    fn explain(&self, code: &Code, data: u64, check: u16, limit: usize, list: &mut [u8]) -> Explained {
+        let done = |length| Explained { length, ..Explained::default() };
+        let answer = linked(code).explain_into(Word { data, check }, limit, list);
+        answer.map_or_else(|refusal| refused(refusal).into(), done)
+    }
+
+    fn card_check(&self, code: &Code, b: usize) -> CardsChecked {
+        match linked(code).card_check(b) {
+            Ok(()) => CardsChecked::default(),
+            Err(desk::Refusal::WeakCard { card, mask }) => CardsChecked { number: 9, told: 0, card, mask },
+            Err(refusal) => refused(refusal).into(),
+        }
+    }
+
+    fn pass(&self, code: &Code, image: &mut [u8], start: usize, end: usize, journal: &mut [u8]) -> Passed {
+        let done = |tally| Passed { tally: counts(tally), ..Passed::default() };
+        linked(code).pass(image, start..end, journal).map_or_else(|refusal| refused(refusal).into(), done)
+    }
+
+    fn mend(&self, input: &[u8]) -> String {
+        program::mend(input)
+    }
+}
