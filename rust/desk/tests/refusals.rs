@@ -77,7 +77,7 @@ fn a_code_is_judged_by_every_question() {
     assert_eq!(code.explain(word, 3), Err(refusal));
     assert_eq!(code.explain_into(word, 3, &mut []), Err(refusal));
     assert_eq!(code.card_check(9), Err(refusal));
-    assert_eq!(code.pass(&mut [0], 1..0, &mut []), Err(refusal));
+    assert_eq!(code.pass(&mut [0], 0..9, &mut []), Err(refusal));
     assert_eq!(Code::new(&code.columns[..8], 5), Err(refusal));
 }
 
