@@ -45,10 +45,12 @@ static void code_fields(void) {
     DeskJudgement told = desk_judge(repeated());
     expect("desk_judge: every field", told.number == 6 && told.told == 5);
     DeskRowBalance balance = desk_row_balance(sixteen_rows());
-    expect("desk_row_balance: every row", balance.number == 0 && balance.told == 0 && memcmp(balance.rows, rows, 64) == 0);
+    expect("desk_row_balance: every row",
+           balance.number == 0 && balance.told == 0 && memcmp(balance.rows, rows, sizeof rows) == 0);
     static const int32_t zeros[DESK_ROWS];
     balance = desk_row_balance(repeated());
-    expect("desk_row_balance: refused", balance.number == 6 && balance.told == 5 && memcmp(balance.rows, zeros, 64) == 0);
+    expect("desk_row_balance: refused",
+           balance.number == 6 && balance.told == 5 && memcmp(balance.rows, zeros, sizeof zeros) == 0);
 }
 
 static void word_fields(void) {
@@ -76,6 +78,40 @@ static void list_and_card_fields(void) {
     expect("desk_cards: refused", cards.number == 6 && cards.told == 5 && cards.card == 0 && cards.mask == 0);
 }
 
+/*
+ * Every place in a pair whose columns differ by 3: check bits 0 and 1; each further check bit with a data column; and
+ * data columns with each other. So a word of syndrome 3 has 40 explanations, and no list is longer.
+ */
+static DeskCode paired(void) {
+    DeskCode code = {.r = 16};
+    for (unsigned j = 2; j < 16; j++) {
+        code.columns[code.k++] = (uint16_t)(1u << j ^ 3);
+    }
+    for (unsigned column = 4; code.k < DESK_COLUMNS; column += 4) {
+        if (__builtin_popcount(column) == 3) {
+            code.columns[code.k++] = (uint16_t)column;
+            code.columns[code.k++] = (uint16_t)(column ^ 3);
+        }
+    }
+    return code;
+}
+
+static void longest_list(void) {
+    uint8_t list[DESK_LONGEST_LIST];
+    DeskListing a = desk_explain(paired(), 0, 3, 2, list, sizeof list - 1);
+    expect("desk_explain: the longest list, a byte short", a.number == DESK_LIST_ROOM && a.told == 40);
+    a = desk_explain(paired(), 0, 3, 2, list, sizeof list);
+    expect("desk_explain: the longest list has 40 entries", a.number == DESK_DONE && a.length == 40);
+}
+
+static void longest_image(void) {
+    static uint8_t image[DESK_IMAGE + DESK_RECORD];
+    DeskPassAnswer a = desk_pass(sample(), image, DESK_IMAGE, 0, DESK_IMAGE / DESK_RECORD, NULL, 0);
+    expect("desk_pass: the longest image", a.number == DESK_DONE && same_tally(a.tally, 6553, 0, 0, 0, 0, 0));
+    a = desk_pass(sample(), image, DESK_IMAGE + DESK_RECORD, 0, 1, NULL, 0);
+    expect("desk_pass: a record more is refused", a.number == DESK_IMAGE_LENGTH);
+}
+
 static void pass_fields(void) {
     uint8_t image[21 * DESK_RECORD], journal[20 * DESK_ENTRY + 7];
     put_every_verdict(image);
@@ -85,6 +121,9 @@ static void pass_fields(void) {
     a = desk_pass(sample(), image, sizeof image, 0, 21, journal, sizeof journal);
     expect("desk_pass: every field", a.number == 0 && a.told == 0 && same_tally(a.tally, 1, 2, 3, 4, 5, 6));
     expect("desk_pass: the journal past its entries stays", is_filled(journal + 20 * DESK_ENTRY, 7, 0xEE));
+    const uint8_t *last = journal + 19 * DESK_ENTRY;
+    expect("desk_pass: the last entry",
+           last[0] == 20 && last[1] == 0 && last[2] == DESK_STRAY && last[3] == DESK_NO_PLACE);
     a = desk_pass(sample(), image, sizeof image, 0, 21, journal, sizeof journal);
     expect("desk_pass: what was mended is clean", a.number == 0 && same_tally(a.tally, 6, 0, 0, 4, 5, 6));
 }
@@ -130,19 +169,21 @@ static void refusals_leave_buffers(void) {
         snprintf(name, sizeof name, "refused by %zu: image and journal stay", number);
         expect(name, image_stays(refused_by(number), 210, 0, 21, 480, number));
     }
-    expect("refused by 7: the list stays", list_stays(sample(), 0x100, 2, 80, 7));
-    expect("refused by 10: the list stays", list_stays(sample(), 0xA6, 2, 9, 10));
-    expect("refused by 11: the list stays", list_stays(sample(), 0xA6, 3, 80, 11));
-    expect("refused by 12: image and journal stay", image_stays(sample(), 209, 0, 20, 480, 12));
-    expect("refused by 13: image and journal stay", image_stays(sample(), 210, 0, 21, 479, 13));
-    expect("refused by 14: image and journal stay", image_stays(sample(), 210, 0, 22, 480, 14));
+    expect("refused by 7: the list stays", list_stays(sample(), 0x100, 2, 80, DESK_STRAY_BITS));
+    expect("refused by 10: the list stays", list_stays(sample(), 0xA6, 2, 9, DESK_LIST_ROOM));
+    expect("refused by 11: the list stays", list_stays(sample(), 0xA6, 3, 80, DESK_FLIP_LIMIT));
+    expect("refused by 12: image and journal stay", image_stays(sample(), 209, 0, 20, 480, DESK_IMAGE_LENGTH));
+    expect("refused by 13: image and journal stay", image_stays(sample(), 210, 0, 21, 479, DESK_JOURNAL_ROOM));
+    expect("refused by 14: image and journal stay", image_stays(sample(), 210, 0, 22, 480, DESK_RUN));
 }
 
 int main(void) {
     code_fields();
     word_fields();
     list_and_card_fields();
+    longest_list();
     pass_fields();
+    longest_image();
     refusals_leave_buffers();
     return finish();
 }

@@ -1,4 +1,4 @@
-/* Every worked case and edge of document 01 through C, in the document's order; rust/desk/tests/worked.rs has the same. */
+/* Every worked case and edge of document 01 through C, in its order; rust/desk/tests/worked.rs has the same. */
 #include "cases.h"
 #include "codes.h"
 

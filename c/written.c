@@ -1,6 +1,6 @@
 /*
- * Which bytes the archive writes. An answer over 16 bytes goes through a pointer that the caller hands over ahead of the
- * arguments; here the functions are declared so, without desk.h, and asked with guards about the answer. A byte is
+ * Which bytes the archive writes. An answer over 16 bytes goes through a pointer that the caller hands over ahead of
+ * the arguments; here the functions are declared so, without desk.h, and asked with guards about the answer. A byte is
  * written if it is the same afterwards, whatever was there before. layout.txt has the sizes.
  */
 #include "cases.h"

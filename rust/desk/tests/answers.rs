@@ -3,7 +3,7 @@
 mod common;
 
 use common::*;
-use desk::{Explanation, Tally, Verdict, Word};
+use desk::{Code, Explanation, Refusal, Tally, Verdict, Word, ENTRY, IMAGE, LONGEST_LIST, RECORD};
 
 #[test]
 fn a_verdict_has_its_number() {
@@ -28,10 +28,10 @@ fn a_tally_counts_each_verdict() {
 fn the_journal_has_an_entry_for_each_record_that_the_tally_counts() {
     let words = [(0xA5, 27), (0xA4, 27), (0xA5, 26), (0xA6, 27), (0xA6, 26), (0x100, 0)];
     let mut image: Vec<u8> = words.iter().flat_map(|&(data, check)| record(data, check)).collect();
-    let mut journal = [0; 5 * desk::ENTRY];
+    let mut journal = [0; 5 * ENTRY];
     let tally = sample().pass(&mut image, 0..6, &mut journal).unwrap();
     assert_eq!(tally.entries(), 5);
-    for (at, entry) in journal.chunks(desk::ENTRY).enumerate() {
+    for (at, entry) in journal.chunks(ENTRY).enumerate() {
         assert_eq!(Verdict::of(entry[2].into()), Some(Verdict::ALL[at + 1]));
     }
 }
@@ -45,4 +45,31 @@ fn an_explanation_is_no_place_one_or_two() {
     assert_eq!(explained(0xA5, 2), [Explanation::Nothing]);
     assert_eq!(explained(0xA4, 2), [Explanation::One(0)]);
     assert_eq!(explained(0xA6, 2)[1], Explanation::Two(3, 12));
+}
+
+/// Every place in a pair whose columns differ by 3: check bits 0 and 1; each further check bit with a data column; and
+/// data columns with each other. So a word of syndrome 3 has 40 explanations, and no list is longer.
+fn paired() -> Code {
+    let with_checks = (2..16).map(|row| 1 << row ^ 3);
+    let three_ones = (4..=u16::MAX).step_by(4).filter(|column| column.count_ones() == 3);
+    let columns: Vec<u16> = with_checks.chain(three_ones.flat_map(|column| [column, column ^ 3])).take(64).collect();
+    code_of(&columns, 16)
+}
+
+#[test]
+fn the_longest_list() {
+    let word = Word { data: 0, check: 3 };
+    let explanations = paired().explain(word, 2).unwrap();
+    assert_eq!(explanations.len(), 40);
+    assert_eq!(explanations[39], Explanation::Two(64, 65));
+    let mut list = [0; LONGEST_LIST];
+    assert_eq!(paired().explain_into(word, 2, &mut list), Ok(40));
+    assert_eq!(paired().explain_into(word, 2, &mut list[1..]), Err(Refusal::ListRoom { length: 40 }));
+}
+
+#[test]
+fn the_longest_image() {
+    let done = Tally { clean: 6_553, ..Tally::default() };
+    assert_eq!(sample().pass(&mut [0; IMAGE], 0..IMAGE / RECORD, &mut []), Ok(done));
+    assert_eq!(sample().pass(&mut [0; IMAGE + RECORD], 0..1, &mut []), Err(Refusal::ImageLength));
 }
