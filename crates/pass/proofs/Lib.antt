@@ -1,8 +1,9 @@
 pub mod Outcomes
-pub mod Cases
-pub mod Parts
-pub mod Table
 pub mod Entries
+pub mod Turns
+pub mod Parts
+pub mod Cases
+pub mod Table
 pub mod Facts
 pub mod Mended
 pub mod Twice

@@ -1,5 +1,11 @@
 -- `pass::pass_run` meets its contract. The invariant: run and journal are as they were, but for what the records before i leave and say.
 -- Assumes nothing.
+use mathlib.Core.Logic.{_≢_}
+use Rattle.pass.proofs.Outcomes.{place-fits}
+use Rattle.pass.proofs.Entries.{entries-rise}
+use Rattle.pass.proofs.Turns.{leftTo, entriesTo, countTo, length-leftTo, here, left-next, left-clean, entries-next}
+-- `pass::pass_run` meets its contract. The invariant: run and journal are as they were, but for what the records before i leave and say.
+-- Assumes nothing.
 use mathlib.Core.Path.{_≡_, refl, sym, ap, ap₂, subst, _∙_}
 use mathlib.Core.List.{List}
 use Prim.Native.Nat.{ℕ, suc, _+_, _*_, _-_, _/_, _≤_, _<_}
@@ -20,23 +26,13 @@ use Rattle.pass.proofs.Outcomes as outcomes
 use Rattle.pass.proofs.pass_run.Statement.{statement}
 use Rattle.pass.proofs.pass_run.Tie as tie
 
--- the first i records as they are left, their entries, how many these are, and the tally
-abbrev left : List ℕ → ℕ → List ℕ → ℕ → List ℕ
-left columns k run i = gather recordSize (λ j. leftOf columns k) run i
-
-abbrev entries : List ℕ → ℕ → ℕ → List ℕ → ℕ → List ℕ
-entries columns k first run i = entriesOf recordSize (verdictOf columns k) (entryOf columns k) first run i
-
-abbrev count : List ℕ → ℕ → List ℕ → ℕ → ℕ
-count columns k run i = neededOf recordSize (verdictOf columns k) run i
-
 abbrev Inv-loop : tie.InvT-loop
 Inv-loop columns k run₀ first journal₀ n tally₀ used₀ i₀ run journal tally used i =
     (i ≤ n)
     × (n ≡ length run₀ / recordSize)
-    × (run ≡ over (left columns k run₀ i) run₀)
-    × (journal ≡ over (entries columns k first run₀ i) journal₀)
-    × (used ≡ entrySize * count columns k run₀ i)
+    × (run ≡ over (leftTo columns k run₀ i) run₀)
+    × (journal ≡ over (entriesTo columns k first run₀ i) journal₀)
+    × (used ≡ entrySize * countTo columns k run₀ i)
     × (tally ≡ tallyOf recordSize (verdictOf columns k) run₀ i)
     × (length run ≡ length run₀)
     × (length journal ≡ length journal₀)
@@ -51,7 +47,7 @@ start c = c .before .before .before .before .before
 abbrev head : tie.After-look Inv-loop μ-loop → tie.At-loop Inv-loop μ-loop
 head c = c .before .before .before .before
 
--- the columns, k, the run at the start, and the record's number in it
+-- the columns, k, the run at the start, the record's number in it, and the record
 abbrev cs : tie.After-look Inv-loop μ-loop → List ℕ
 cs c = start (head c) .args .columns .now
 
@@ -64,6 +60,9 @@ run₀ c = start (head c) .args .run .now
 abbrev at : tie.After-look Inv-loop μ-loop → ℕ
 at c = head c .loop .i
 
+abbrev width : tie.After-look Inv-loop μ-loop → ℕ
+width c = at c * recordSize + recordSize - at c * recordSize
+
 abbrev rec : tie.After-look Inv-loop μ-loop → List ℕ
 rec c = recordAt recordSize (run₀ c) (at c)
 
@@ -71,14 +70,12 @@ rec c = recordAt recordSize (run₀ c) (at c)
 fits : (c : tie.After-look Inv-loop μ-loop) → suc (at c) * recordSize ≤ length (run₀ c)
 fits c = omega arith
 
-here : (c : tie.After-look Inv-loop μ-loop) → take (at c * recordSize + recordSize - at c * recordSize) (drop (at c * recordSize) (head c .loop .run)) ≡ rec c
-here c =
-    record-next recordSize (λ j. leftOf (cs c) (k c)) (λ j. outcomes.length-left (cs c) (k c)) (run₀ c) (at c) (fits c) (head c .loop .run)
-    (at c * recordSize + recordSize - at c * recordSize) (head c .loop .inv .2) (omega arith)
+as-it-was : (c : tie.After-look Inv-loop μ-loop) → take (width c) (drop (at c * recordSize) (head c .loop .run)) ≡ rec c
+as-it-was c = here (cs c) (k c) (run₀ c) (at c) (fits c) (head c .loop .run) (width c) (head c .loop .inv .2) (omega arith)
 
 -- so what is found is what it was
 seen : (c : tie.After-look Inv-loop μ-loop) → c .look .result ≡ readingOf (cs c) (k c) (rec c)
-seen c = c .look .ensures ∙ ap (readingOf (cs c) (k c)) (here c)
+seen c = c .look .ensures ∙ ap (readingOf (cs c) (k c)) (as-it-was c)
 
 verdict-seen : (c : tie.After-verdict-in Inv-loop μ-loop) → c .verdict-in .result ≡ verdictOf (cs (c .before)) (k (c .before)) (rec (c .before))
 unfolding verdictOf
@@ -93,54 +90,15 @@ tally-next c =
     ∙ ap₂ countedOf (head l .loop .inv .5) (verdict-seen (c .before))
     ∙ tally-step recordSize (verdictOf (cs l) (k l)) (run₀ l) (at l) (omega (arith, start (head l) .pre .1 .1 .0))
 
--- an entry is needed, so there is room for it
-needed-next : (c : tie.Then1 Inv-loop μ-loop)
-    → let l = c .before .before .before in count (cs l) (k l) (run₀ l) (at l + 1) ≡ count (cs l) (k l) (run₀ l) (at l) + 1
-needed-next c =
-    let l = c .before .before .before in
-    needed-more recordSize (verdictOf (cs l) (k l)) (run₀ l) (at l) (λ z. c .if1 .taken (verdict-seen (c .before .before) ∙ z))
+-- the record is not clean, so there is room for its entry
+not-clean : (c : tie.Then1 Inv-loop μ-loop) → let l = c .before .before .before in verdictOf (cs l) (k l) (rec l) ≢ 0
+not-clean c z = c .if1 .taken (verdict-seen (c .before .before) ∙ z)
 
 room : (c : tie.Then1 Inv-loop μ-loop)
     → let l = c .before .before .before in head l .loop .used + entrySize ≤ length (start (head l) .args .journal .now)
 room c =
     let l = c .before .before .before in
-    omega (
-      arith,
-      needed-next c,
-      start (head l) .pre .1 .1 .1,
-      sum-mono recordSize (unclean (verdictOf (cs l) (k l))) (run₀ l) (at l + 1) (length (run₀ l) / recordSize) (omega arith),
-    )
-
--- the run with the record as it is left, and the journal with its entry
-left-next : (c : tie.After-enter Inv-loop μ-loop)
-    → let l = c .before .before .before .before .before .before in
-    putMid (at l * recordSize) (at l * recordSize + recordSize - at l * recordSize) (head l .loop .run) (c .enter .last .0) ≡ over (left (cs l) (k l) (run₀ l) (at l + 1)) (run₀ l)
-unfolding leftOf
-left-next c =
-    let l = c .before .before .before .before .before .before in
-    let size = outcomes.length-left (cs l) (k l) in
-    let same : c .enter .last .0 ≡ leftOf (cs l) (k l) (rec l) = c .enter .ensures .0 ∙ ap₂ leftBy (seen l) (here l) in
-    gather-write recordSize (λ j. leftOf (cs l) (k l)) (run₀ l) (at l) (run₀ l) (head l .loop .run) (c .enter .last .0)
-    (at l * recordSize) (at l * recordSize + recordSize - at l * recordSize) (head l .loop .inv .2)
-    (length-left recordSize (λ j. leftOf (cs l) (k l)) (λ j. size) (run₀ l) (at l) (omega (arith, fits l))) same
-    (ap length same ∙ size (rec l) (record-length recordSize (run₀ l) (at l) (fits l)) ∙ omega arith)
-
-entries-next : (c : tie.After-enter Inv-loop μ-loop)
-    → let l = c .before .before .before .before .before .before in
-    putMid (head l .loop .used) (head l .loop .used + entrySize - head l .loop .used) (head l .loop .journal) (c .enter .last .1 .0)
-    ≡ over (entries (cs l) (k l) (start (head l) .args .first) (run₀ l) (at l + 1)) (start (head l) .args .journal .now)
-unfolding entryOf
-entries-next c =
-    let t = c .before .before .before in
-    let l = t .before .before .before in
-    let first = start (head l) .args .first in
-    let size = outcomes.length-entryOf (cs l) (k l) in
-    let same : c .enter .last .1 .0 ≡ entryOf (cs l) (k l) (first + at l) (rec l) = c .enter .ensures .1 ∙ ap₂ (entryBy (first + at l)) (seen l) (here l) in
-    entries-write recordSize (verdictOf (cs l) (k l)) (run₀ l) (at l) (entryOf (cs l) (k l)) first
-    (start (head l) .args .journal .now) (head l .loop .journal) (c .enter .last .1 .0) (head l .loop .used) (head l .loop .used + entrySize - head l .loop .used)
-    (λ z. t .if1 .taken (verdict-seen (t .before .before) ∙ z)) (head l .loop .inv .3)
-    (length-entries recordSize (verdictOf (cs l) (k l)) (entryOf (cs l) (k l)) entrySize size first (run₀ l) (at l) (omega (arith, fits l)) ∙ sym (head l .loop .inv .4))
-    same (ap length same ∙ size (first + at l) (rec l) (record-length recordSize (run₀ l) (at l) (fits l)) ∙ omega arith)
+    omega (arith, start (head l) .pre .1 .1 .1, entries-rise recordSize (verdictOf (cs l) (k l)) (run₀ l) (at l) (length (run₀ l) / recordSize) (omega arith) (not-clean c))
 
 new-requires : tie.Need-new-requires Inv-loop μ-loop
 new-requires c κs = search needs
@@ -206,7 +164,7 @@ part-enter-end-2 c = omega (arith, room (c .before))
 enter-requires : tie.Need-enter-requires Inv-loop μ-loop
 enter-requires c κs =
     let l = c .before .before .before .before .before in
-    (search needs, (search needs, subst (λ r. placeFor r < 256) (sym (seen l)) (outcomes.place-fits (cs l) (k l) (start (head l) .pre .0) (rec l))))
+    (search needs, (search needs, subst (λ r. placeFor r < 256) (sym (seen l)) (place-fits (cs l) (k l) (start (head l) .pre .0) (rec l))))
 
 loop-less : tie.Need-loop-less Inv-loop μ-loop
 loop-less c = search needs
@@ -215,15 +173,18 @@ loop-again : tie.Need-loop-again Inv-loop μ-loop
 loop-again c =
     let e = c .before .before .before .before in
     let t = e .before .before .before in
-    let l = t .before .before .before in (
+    let l = t .before .before .before in
+    let h = head l .loop in
+    let a = start (head l) .args in (
       omega arith,
       refl,
-      left-next e,
-      entries-next e,
-      omega (arith, needed-next t, head l .loop .inv .4),
+      left-next (cs l) (k l) (run₀ l) (at l) (fits l) (h .run) (width l) (h .inv .2) (omega arith) (e .enter .last .0) (l .look .result) (seen l) (e .enter .ensures .0),
+      entries-next (cs l) (k l) (run₀ l) (at l) (fits l) (a .first) (a .journal .now) (h .journal) (e .enter .last .1 .0) (h .used) (h .used + entrySize - h .used)
+          (l .look .result) _ (not-clean t) (h .inv .3) (h .inv .4) (omega arith) (seen l) (as-it-was l) (e .enter .ensures .1),
+      omega (arith, needed-more recordSize (verdictOf (cs l) (k l)) (run₀ l) (at l) (not-clean t), h .inv .4),
       tally-next (t .before),
-      c .before .before .before .run2 .given .1 ∙ head l .loop .inv .6,
-      c .before .journal .given .1 ∙ head l .loop .inv .7,
+      c .before .before .before .run2 .given .1 ∙ h .inv .6,
+      c .before .journal .given .1 ∙ h .inv .7,
     )
 
 loop-less-2 : tie.Need-loop-less-2 Inv-loop μ-loop
@@ -232,16 +193,17 @@ loop-less-2 c = search needs
 loop-again-2 : tie.Need-loop-again-2 Inv-loop μ-loop
 loop-again-2 c =
     let l = c .before .before .before in
+    let h = head l .loop in
     let a = start (head l) .args in
     let clean : verdictOf (cs l) (k l) (rec l) ≡ 0 = sym (verdict-seen (c .before .before)) ∙ c .if1 .left in (
       omega arith,
       refl,
-      head l .loop .inv .2 ∙ sym (record-kept recordSize (λ j. leftOf (cs l) (k l)) (λ j. outcomes.length-left (cs l) (k l)) (run₀ l) (at l) (fits l) (outcomes.clean-kept (cs l) (k l) (rec l) clean)),
-      head l .loop .inv .3 ∙ ap (λ p. over p (a .journal .now)) (sym (entries-clean recordSize (verdictOf (cs l) (k l)) (run₀ l) (at l) (entryOf (cs l) (k l)) (a .first) clean)),
-      omega (arith, needed-clean recordSize (verdictOf (cs l) (k l)) (run₀ l) (at l) clean, head l .loop .inv .4),
+      left-clean (cs l) (k l) (run₀ l) (at l) (fits l) (h .run) (h .inv .2) clean,
+      h .inv .3 ∙ ap (λ p. over p (a .journal .now)) (sym (entries-clean recordSize (verdictOf (cs l) (k l)) (run₀ l) (at l) (entryOf (cs l) (k l)) (a .first) clean)),
+      omega (arith, needed-clean recordSize (verdictOf (cs l) (k l)) (run₀ l) (at l) clean, h .inv .4),
       tally-next (c .before),
-      head l .loop .inv .6,
-      head l .loop .inv .7,
+      h .inv .6,
+      h .inv .7,
     )
 
 same-length : tie.Need-same-length Inv-loop μ-loop
@@ -255,16 +217,10 @@ returns c =
     let l = c .before .loop in
     let a = start (c .before) .args in
     let run = a .run .now in
-    let size = outcomes.length-left (a .columns .now) (a .k) in
     let e : l .i ≡ length run / recordSize = omega arith in
     let p = start (c .before) .pre .1 .0 in
-    let done = length-left recordSize (λ j. leftOf (a .columns .now) (a .k)) (λ j. size) run (l .i) (omega arith) in (
-      rw (← e) (l .inv .5),
-      (
-        rw (← e) (l .inv .2 ∙ over-all (left (a .columns .now) (a .k) run (l .i)) run (omega arith)),
-        rw (← e) (l .inv .3),
-      ),
-    )
+    let all = length-leftTo (a .columns .now) (a .k) run (l .i) (omega arith) in
+    (rw (← e) (l .inv .5), (rw (← e) (l .inv .2 ∙ over-all (leftTo (a .columns .now) (a .k) run (l .i)) run (omega arith)), rw (← e) (l .inv .3)))
 
 pub pass-run-spec : {M : Type 1} → statement M
 pass-run-spec =
