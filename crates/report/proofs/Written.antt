@@ -1,0 +1,63 @@
+-- Laws of a text written into a list from a place on. Assumes nothing.
+use mathlib.Core.Path.{_≡_, refl, sym, ap, _∙_}
+use mathlib.Core.List.{List, [], _∷_, _++_, append-assoc}
+use Prim.Native.Nat.{ℕ, _+_, _≤_, _<_}
+use native.Mathlib.Numerals.{add-one}
+use native.Mathlib.Omega.{arith}
+use lib.ListN.{length, take, drop, set, length-append, length-take, length-drop}
+use lib.Seq.{set-split, drop-drop, length-take-le}
+use borrow.Rule.Slice.PartMut.{putMid}
+use Rattle.record.specs.Run.{over}
+use Rattle.record.proofs.Over.{over-part}
+use Rattle.report.specs.Text.{written}
+
+-- what a function that writes a text answers, and leaves behind
+abbrev pub Puts : ℕ → List ℕ → List ℕ → ℕ → List ℕ → Type 0
+Puts at text d end out = (end ≡ at + length text) × (out ≡ written at text d)
+
+pub length-written : (at : ℕ) (text d : List ℕ) → at + length text ≤ length d → length (written at text d) ≡ length d
+unfolding written
+length-written at text d h = simp (length-append, length-take, length-drop) (omega arith)
+
+pub set-written : (d : List ℕ) (at v : ℕ) → at < length d → set d at v ≡ written at (v ∷ []) d
+unfolding written
+set-written d at v h = rw (drop-drop 1 at d, add-one at) (set-split d at v h)
+
+-- from the first byte on
+pub written-first : (text d : List ℕ) → written 0 text d ≡ over text d
+unfolding written
+written-first text d = refl
+
+-- behind a front
+pub written-over : (p text d : List ℕ) (at : ℕ) → length p ≡ at → written at text (over p d) ≡ over (p ++ text) d
+unfolding written
+written-over p text d at e = over-part p d text at (length text) e refl
+
+written-is : (at : ℕ) (text d : List ℕ) → at ≤ length d → written at text d ≡ over (take at d ++ text) d
+unfolding written
+written-is at text d h =
+    rw (length-append (take at d) text, length-take-le at d h, ← drop-drop (length text) at d)
+    (sym (append-assoc (take at d) text (drop (length text) (drop at d))))
+
+-- two texts, one behind the other, are one
+pub both : (at mid end : ℕ) (s t d between out : List ℕ) → at + length s ≤ length d → Puts at s d mid between → Puts mid t between end out → Puts at (s ++ t) d end out
+both at mid end s t d between out h p q =
+    let l : length (take at d ++ s) ≡ mid = simp (length-append, length-take) (omega arith) in (
+      simp length-append (omega arith),
+      q .1
+          ∙ ap (written mid t) (p .1 ∙ written-is at s d (omega arith))
+          ∙ written-over (take at d ++ s) t d mid l
+          ∙ ap (λ (m : List ℕ). over m d) (append-assoc (take at d) s t)
+          ∙ sym (written-is at (s ++ t) d (omega arith)),
+    )
+
+pub three : (at second third end : ℕ) (s t u d between later out : List ℕ) → at + (length s + length t) ≤ length d
+    → Puts at s d second between → Puts second t between third later → Puts third u later end out → Puts at (s ++ (t ++ u)) d end out
+three at second third end s t u d between later out h p q r =
+    let l : length between ≡ length d = ap length (p .1) ∙ length-written at s d (omega arith) in
+    both at second end s (t ++ u) d between out (omega arith) p (both second third end t u between later out (omega arith) q r)
+
+-- a part that is lent and comes back as the text
+pub part-written : (d ys text : List ℕ) (at k : ℕ) → k ≡ length text → ys ≡ text → putMid at k d ys ≡ written at text d
+unfolding written
+part-written d ys text at k e f = rw (e, f)
