@@ -1,10 +1,19 @@
 // The program: reads an image on standard input, passes over it with the sample code, run by run, and prints entries and tally.
+ghost use mathlib.Core.Path.{_≡_};
+ghost use Prim.Native.Nat.{_+_, _*_, _≤_, _<_};
+ghost use lib.ListN.{length};
+ghost use Rattle.record.specs.Run.{over};
+ghost use Rattle.pass.specs.Pass.{recordsIn, roomIn};
+ghost use Rattle.pass.specs.Says.{Image};
+ghost use Rattle.report.specs.Text.{lineSize};
+ghost use Rattle.mend.specs.Mend.{sampleCode, runTally, runLeft, runText, runSize, Ready, asTotals};
 use code::Code;
 use pass::Passed;
 use record::ENTRY;
 use record::IMAGE_LIMIT;
 use record::RECORD;
 use record::Tally;
+use report::LINE;
 use report::REFUSAL;
 use report::TALLY_LINE;
 use report::Totals;
@@ -17,8 +26,12 @@ const RUN: usize = 2730;
 
 const JOURNAL: usize = RUN * ENTRY;
 
+const LINES: usize = RUN * LINE;
+
 // Source document 002, figure 2.
-fn sample_code() -> Code {
+fn sample_code() -> Code
+    ensures { λ c. ⌜ c ≡ sampleCode ⌝ }
+{
     let mut columns = [0u16; 64];
     columns[0] = 28;
     columns[1] = 26;
@@ -35,14 +48,19 @@ fn sample_code() -> Code {
     }
 }
 
-// A pass over a run, whose entries are printed; nothing where it is refused.
+// A pass over a run, whose entries are printed.
 fn mend_run(
     image: &mut [u8],
     start: usize,
     end: usize,
     journal: &mut [u8],
     lines: &mut [u8],
-) -> Tally {
+) -> Tally
+    requires { ⌜ Ready (now image) start end (now journal) (now lines) ⌝ }
+    ensures { λ t. ⌜ t ≡ runTally (now (image .entry)) start end ⌝ }
+    ensures { λ _. ⌜ now (image .exit) ≡ runLeft (now (image .entry)) start end ⌝ }
+    ensures { λ _. ⌜ now (lines .exit) ≡ over (runText (now (image .entry)) start end) (now (lines .entry)) ⌝ }
+{
     let answer = pass::pass(sample_code(), image, start, end, journal);
     let Passed::Done(tally) = answer else {
         return Tally::new();
@@ -54,7 +72,10 @@ fn mend_run(
 }
 
 // The end of the run that begins at `start`.
-fn run_end(start: usize, records: usize) -> usize {
+fn run_end(start: usize, records: usize) -> usize
+    requires { ⌜ start < records ⌝ }
+    ensures { λ end. ⌜ (start < end) × (end ≤ records) × (end ≤ start + runSize) ⌝ }
+{
     if records - start < RUN {
         records
     } else {
@@ -62,7 +83,13 @@ fn run_end(start: usize, records: usize) -> usize {
     }
 }
 
-fn mend_runs(image: &mut [u8], journal: &mut [u8], lines: &mut [u8]) -> Totals {
+// The image run by run, the tallies summed.
+fn mend_runs(image: &mut [u8], journal: &mut [u8], lines: &mut [u8]) -> Totals
+    requires { ⌜ Image (now image) ⌝ }
+    requires { ⌜ (runSize ≤ roomIn (now journal)) × (lineSize * roomIn (now journal) ≤ length (now lines)) ⌝ }
+    ensures { λ t. ⌜ t ≡ asTotals (runTally (now (image .entry)) 0 (recordsIn (now (image .entry)))) ⌝ }
+    ensures { λ _. ⌜ now (image .exit) ≡ runLeft (now (image .entry)) 0 (recordsIn (now (image .entry))) ⌝ }
+{
     let records = image.len() / RECORD;
     let mut totals = Totals::new();
     let mut start = 0;
@@ -81,7 +108,9 @@ fn print_tally(totals: Totals) {
     io::write_all(libc::STDOUT_FILENO, &line[..size]);
 }
 
-fn print_refusal(number: usize) {
+fn print_refusal(number: usize)
+    requires { ⌜ number ≡ 12 ⌝ }
+{
     let mut line = [0u8; REFUSAL];
     let size = report::refused_text(number, &mut line);
     io::write_all(libc::STDOUT_FILENO, &line[..size]);
@@ -90,7 +119,7 @@ fn print_refusal(number: usize) {
 // A pass over no record tells whether the image is refused, before anything is printed.
 fn mend_image(image: &mut [u8]) {
     let mut journal = [0u8; JOURNAL];
-    let mut lines = [0u8; JOURNAL];
+    let mut lines = [0u8; LINES];
     let answer = pass::pass(sample_code(), image, 0, 0, &mut journal);
     let Passed::Done(_) = answer else {
         print_refusal(pass::number_of(answer));

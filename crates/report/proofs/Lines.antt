@@ -1,15 +1,16 @@
 -- How long each text is. Assumes nothing.
-use mathlib.Core.Path.{_≡_, sym, ap, _∙_}
+use mathlib.Core.Path.{_≡_, sym, ap, ap₂, _∙_}
 use mathlib.Core.List.{List, [], _∷_, _++_}
-use Prim.Native.Nat.{ℕ, zero, suc, _+_, _*_, _^_, _≤_, _<_}
+use Prim.Native.Nat.{ℕ, zero, suc, _+_, _*_, _/_, _^_, _≤_, _<_}
 use native.Mathlib.Omega.{arith}
 use lib.ListN.{length, getD, take, drop, length-append, length-take}
+use lib.Seq.{drop-at}
 use Rattle.record.specs.Bytes.{numberOf, bytesOf, span, AllBytes}
 use Rattle.record.specs.Layout.{numberSize, entrySize, entryHead, entryBytes}
 use Rattle.record.specs.Run.{recordAt, gather, over}
 use Rattle.record.proofs.Bytes.{bytes-take, bytes-part, number-fits, number-bytes}
-use Rattle.record.proofs.Run.{gather-step}
-use Rattle.report.specs.Text.{space, newline, decimalOf, shown, named, threeNamed, lineOf, entryLine, lineSize, written}
+use Rattle.record.proofs.Run.{record-append, gather-step, gather-add, gather-alike}
+use Rattle.report.specs.Text.{space, newline, decimalOf, shown, named, threeNamed, lineOf, entryLine, journalText, lineSize, written}
 use Rattle.report.proofs.Written.{Puts, written-over}
 use Rattle.report.proofs.Decimal.{decimal-short}
 
@@ -103,3 +104,16 @@ lines-step journal first out later i at end n m e l p =
       q .1 ∙ ap (written at line) e ∙ written-over (linesTo journal i) line first at (sym l),
       omega (arith, q .0, length-append (linesTo journal i) line),
     )
+
+-- the lines of two journals, one behind the other
+pub journal-append : (x y : List ℕ) (m : ℕ) → length x ≡ entrySize * m → journalText (x ++ y) ≡ journalText x ++ journalText y
+unfolding journalText
+journal-append x y m e =
+    let n = length y / entrySize in
+    let whole : length (x ++ y) / entrySize ≡ m + n = omega (arith, length-append x y) in
+    let front : length x / entrySize ≡ m = omega arith in
+    rw (whole, front)
+    (gather-add entrySize (λ i. entryLine) (x ++ y) m n
+    ∙ ap₂ (λ p q. p ++ q)
+    (gather-alike entrySize (λ i. entryLine) (λ i. entryLine) (x ++ y) x m (λ i l. ap entryLine (record-append entrySize x y i (omega arith))))
+    (ap (λ r. linesTo r n) (drop-at x y (m * entrySize) (omega arith))))

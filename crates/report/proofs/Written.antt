@@ -9,7 +9,7 @@ use lib.Seq.{set-split, drop-drop, length-take-le}
 use borrow.Rule.Slice.PartMut.{putMid}
 use Rattle.record.specs.Run.{over}
 use Rattle.record.proofs.Over.{over-part}
-use Rattle.report.specs.Text.{written}
+use Rattle.report.specs.Text.{written, Held}
 
 -- what a function that writes a text answers, and leaves behind
 abbrev pub Puts : ℕ → List ℕ → List ℕ → ℕ → List ℕ → Type 0
@@ -22,11 +22,6 @@ length-written at text d h = simp (length-append, length-take, length-drop) (ome
 pub set-written : (d : List ℕ) (at v : ℕ) → at < length d → set d at v ≡ written at (v ∷ []) d
 unfolding written
 set-written d at v h = rw (drop-drop 1 at d, add-one at) (set-split d at v h)
-
--- from the first byte on
-pub written-first : (text d : List ℕ) → written 0 text d ≡ over text d
-unfolding written
-written-first text d = refl
 
 -- behind a front
 pub written-over : (p text d : List ℕ) (at : ℕ) → length p ≡ at → written at text (over p d) ≡ over (p ++ text) d
@@ -61,3 +56,14 @@ three at second third end s t u d between later out h p q r =
 pub part-written : (d ys text : List ℕ) (at k : ℕ) → k ≡ length text → ys ≡ text → putMid at k d ys ≡ written at text d
 unfolding written
 part-written d ys text at k e f = rw (e, f)
+
+-- a text at the front, which can be lent on
+pub fronted : (n : ℕ) (text d out : List ℕ) → n ≡ length text → out ≡ over text d → (n ≡ length text) × ((out ≡ over text d) × Held n out)
+fronted n text d out e f =
+    let h : n ≤ length out = omega (arith, ap length f, length-append text (drop (length text) d)) in
+    (e, (f, (h, sym (length-take-le n out h))))
+
+-- what is written from the first byte on stands at the front
+pub written-front : (n : ℕ) (text d out : List ℕ) → Puts 0 text d n out → (n ≡ length text) × ((out ≡ over text d) × Held n out)
+unfolding written
+written-front n text d out p = fronted n text d out (omega (arith, p .0)) (p .1)

@@ -1,7 +1,8 @@
 -- What the program prints: document 01, the last item of "The sample code, worked". A character is its ASCII code. Assumes nothing.
 use mathlib.Core.Bool.{cond}
+use mathlib.Core.Path.{_≡_}
 use mathlib.Core.List.{List, [], _∷_, _++_}
-use Prim.Native.Nat.{ℕ, zero, suc, _+_, _/_, _%_}
+use Prim.Native.Nat.{ℕ, zero, suc, _+_, _/_, _%_, _≤_}
 use lib.Dec.{ltb}
 use lib.ListN.{length, getD, take, drop}
 use Rattle.record.specs.Bytes.{numberOf}
@@ -41,6 +42,10 @@ threeNamed a x b y c z after = named a x space ++ (named b y space ++ named c z 
 -- d with the text from the place `at` on
 unfoldable pub written : ℕ → List ℕ → List ℕ → List ℕ
 written at text d = take at d ++ over text (drop at d)
+
+-- n bytes stand at the start of d; the second part follows from the first, and saves a caller who lends them on a proof
+abbrev pub Held : ℕ → List ℕ → Type 0
+Held n d = (n ≤ length d) × (n ≡ length (take n d))
 
 -- ---- an entry: record, verdict, place
 

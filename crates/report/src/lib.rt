@@ -5,7 +5,7 @@ ghost use Prim.Native.Nat.{_+_, _*_, _/_, _≤_, _<_};
 ghost use lib.ListN.{length};
 ghost use Rattle.record.specs.Layout.{entrySize};
 ghost use Rattle.record.specs.Run.{over};
-ghost use Rattle.report.specs.Text.{decimalOf, shown, named, threeNamed, entryLine, journalText, lineSize, tallyText, refusedText, written};
+ghost use Rattle.report.specs.Text.{decimalOf, shown, named, threeNamed, entryLine, journalText, lineSize, tallyText, refusedText, written, Held};
 ghost use Rattle.report.specs.Totals.{noTotals, addedTo, entriesIn, totalLimit, Within};
 use record::ENTRY;
 use record::NUMBER;
@@ -111,6 +111,7 @@ pub fn journal_text(journal: &[u8], out: &mut [u8]) -> usize
     requires { ⌜ lineSize * (length (now journal) / entrySize) ≤ length (now out) ⌝ }
     ensures { λ r. ⌜ r ≡ length (journalText (now (journal .entry))) ⌝ }
     ensures { λ _. ⌜ now (out .exit) ≡ over (journalText (now (journal .entry))) (now (out .entry)) ⌝ }
+    ensures { λ r. ⌜ Held r (now (out .exit)) ⌝ }
 {
     let n = journal.len() / ENTRY;
     let mut at = 0;
@@ -178,6 +179,7 @@ pub fn entries_in(run: Tally) -> usize
 pub fn tally_text(totals: Totals, out: &mut [u8; TALLY_LINE]) -> usize
     ensures { λ r. ⌜ r ≡ length (tallyText totals) ⌝ }
     ensures { λ _. ⌜ now (out .exit) ≡ over (tallyText totals) (now (out .entry)) ⌝ }
+    ensures { λ r. ⌜ Held r (now (out .exit)) ⌝ }
 {
     let middle = put_three(
         out,
@@ -207,6 +209,7 @@ pub fn tally_text(totals: Totals, out: &mut [u8; TALLY_LINE]) -> usize
 pub fn refused_text(number: usize, out: &mut [u8; REFUSAL]) -> usize
     ensures { λ r. ⌜ r ≡ length (refusedText number) ⌝ }
     ensures { λ _. ⌜ now (out .exit) ≡ over (refusedText number) (now (out .entry)) ⌝ }
+    ensures { λ r. ⌜ Held r (now (out .exit)) ⌝ }
 {
     put_named(out, 0, b"refused ", number, b'\n')
 }

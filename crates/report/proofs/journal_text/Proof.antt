@@ -8,12 +8,10 @@ use Rattle.record.specs.Layout.{entrySize}
 use Rattle.record.specs.Run.{gather, over}
 use Rattle.record.proofs.Over.{part-length}
 use Rattle.report.specs.Text.{journalText}
+use Rattle.report.proofs.Written.{fronted}
 use Rattle.report.proofs.Lines.{linesTo, lines-short, lines-step}
 use Rattle.report.proofs.journal_text.Statement.{statement}
 use Rattle.report.proofs.journal_text.Tie as tie
-use Rattle.report.proofs.journal_text.Reads as reads
-use Rattle.report.proofs.journal_text.Lts as lts
-use Rattle.report.proofs.put_entry_line.Reads as put-entry-line-reads
 
 abbrev Inv-loop : tie.InvT-loop
 Inv-loop journal out₀ n at₀ i₀ out at i =
@@ -22,32 +20,25 @@ Inv-loop journal out₀ n at₀ i₀ out at i =
 abbrev μ-loop : tie.MeasureT-loop
 μ-loop journal out₀ n at₀ i₀ out at i = n - i
 
--- src/lib.rt:108:5
 loop-holds : tie.Need-loop-holds Inv-loop μ-loop
 unfolding gather
 loop-holds c = search needs
 
--- src/lib.rt:109:20
 mul-from : tie.Need-mul-from Inv-loop μ-loop
 mul-from c = search needs
 
--- src/lib.rt:110:18
 add-to : tie.Need-add-to Inv-loop μ-loop
 add-to c = search needs
 
--- src/lib.rt:111:38
 sub-put-entry-line : tie.Need-sub-put-entry-line Inv-loop μ-loop
 sub-put-entry-line c = search needs
 
--- src/lib.rt:111:38
 part-put-entry-line-start : tie.Need-part-put-entry-line-start Inv-loop μ-loop
 part-put-entry-line-start c = search needs
 
--- src/lib.rt:111:38
 part-put-entry-line-end : tie.Need-part-put-entry-line-end Inv-loop μ-loop
 part-put-entry-line-end c = search needs
 
--- src/lib.rt:111:9
 put-entry-line-requires : tie.Need-put-entry-line-requires Inv-loop μ-loop
 put-entry-line-requires c κs =
     let l = c .before .before .before in
@@ -57,15 +48,12 @@ put-entry-line-requires c κs =
       omega (arith, lines-short j (λ k. omega (arith, l .before .before .shared-slice-known .given k)) (l .loop .i)),
     )
 
--- src/lib.rt:112:9
 add-i : tie.Need-add-i Inv-loop μ-loop
 add-i c = search needs
 
--- src/lib.rt:108:5
 loop-less : tie.Need-loop-less Inv-loop μ-loop
 loop-less c = search needs
 
--- src/lib.rt:108:5
 loop-again : tie.Need-loop-again Inv-loop μ-loop
 loop-again c =
     let put = c .before .before .put-entry-line in
@@ -76,18 +64,18 @@ loop-again c =
     (omega arith) (l .loop .inv .2) (l .loop .inv .3) (put .ensures) in
     (omega arith, l .loop .inv .1, q .0, q .1, search needs)
 
--- src/lib.rt:100:1
 same-length : tie.Need-same-length Inv-loop μ-loop
 same-length c = search needs
 
--- src/lib.rt:100:1
 returns : tie.Need-returns Inv-loop μ-loop
 unfolding journalText
 returns c =
     let l = c .before in
     let j = l .before .before .before .args .journal .now in
     let e : l .loop .i ≡ length j / entrySize = omega arith in
-    (l .loop .inv .3 ∙ ap (λ (k : ℕ). length (linesTo j k)) e, l .loop .inv .2 ∙ ap (λ (k : ℕ). over (linesTo j k) (l .before .before .before .args .out .now)) e)
+    let first = l .before .before .before .args .out .now in
+    fronted (l .loop .at) (journalText j) first (l .loop .out)
+    (l .loop .inv .3 ∙ ap (λ (k : ℕ). length (linesTo j k)) e) (l .loop .inv .2 ∙ ap (λ (k : ℕ). over (linesTo j k) first) e)
 
 pub journal-text-spec : {M : Type 1} → statement M
 journal-text-spec =

@@ -4,22 +4,16 @@ use Rattle.report.proofs.Written.{set-written}
 use borrow.Author.Needs.{needs}
 use Rattle.report.proofs.put_byte.Statement.{statement}
 use Rattle.report.proofs.put_byte.Tie as tie
-use Rattle.report.proofs.put_byte.Reads as reads
-use Rattle.report.proofs.put_byte.Lts as lts
 
--- src/lib.rt:28:5
 slice-write-out : tie.Need-slice-write-out
 slice-write-out c = search needs
 
--- src/lib.rt:29:5
 add-result : tie.Need-add-result
 add-result c = search needs
 
--- src/lib.rt:23:1
 same-length : tie.Need-same-length
 same-length c = search needs
 
--- src/lib.rt:23:1
 returns : tie.Need-returns
 returns c = (refl, set-written (c .args .out .now) (c .args .at) (c .args .byte) (c .pre))
 

@@ -7,28 +7,20 @@ use Rattle.report.proofs.Lines.{length-named}
 use borrow.Author.Needs.{needs}
 use Rattle.report.proofs.put_named.Statement.{statement}
 use Rattle.report.proofs.put_named.Tie as tie
-use Rattle.report.proofs.put_named.Reads as reads
-use Rattle.report.proofs.put_named.Lts as lts
-use Rattle.report.proofs.put_shown.Reads as put-shown-reads
-use Rattle.report.proofs.put_text.Reads as put-text-reads
 
--- src/lib.rt:71:9
 put-text-requires : tie.Need-put-text-requires
 put-text-requires c κs =
     let a = c .before .before .before .args in
     omega (arith, length-named (a .name .now) (a .n) (a .after))
 
--- src/lib.rt:72:5
 put-shown-requires : tie.Need-put-shown-requires
 put-shown-requires c κs =
     let a = c .before .before .before .before .before .before .before .args in
     omega (arith, length-named (a .name .now) (a .n) (a .after))
 
--- src/lib.rt:66:1
 same-length : tie.Need-same-length
 same-length c = search needs
 
--- src/lib.rt:66:1
 returns : tie.Need-returns
 unfolding named
 returns c =

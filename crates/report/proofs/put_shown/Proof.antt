@@ -8,28 +8,20 @@ use Rattle.report.proofs.Lines.{length-shown}
 use borrow.Author.Needs.{needs}
 use Rattle.report.proofs.put_shown.Statement.{statement}
 use Rattle.report.proofs.put_shown.Tie as tie
-use Rattle.report.proofs.put_shown.Reads as reads
-use Rattle.report.proofs.put_shown.Lts as lts
-use Rattle.report.proofs.put_byte.Reads as put-byte-reads
-use Rattle.report.proofs.put_decimal.Reads as put-decimal-reads
 
--- src/lib.rt:61:9
 put-decimal-requires : tie.Need-put-decimal-requires
 put-decimal-requires c κs =
     let a = c .before .before .args in
     omega (arith, length-shown (a .n) (a .after))
 
--- src/lib.rt:62:5
 put-byte-requires : tie.Need-put-byte-requires
 put-byte-requires c κs =
     let a = c .before .before .before .before .before .before .args in
     omega (arith, length-shown (a .n) (a .after))
 
--- src/lib.rt:56:1
 same-length : tie.Need-same-length
 same-length c = search needs
 
--- src/lib.rt:56:1
 returns : tie.Need-returns
 unfolding shown
 returns c =

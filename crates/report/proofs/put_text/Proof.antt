@@ -7,35 +7,25 @@ use Rattle.report.proofs.Written.{part-written}
 use borrow.Author.Needs.{needs}
 use Rattle.report.proofs.put_text.Statement.{statement}
 use Rattle.report.proofs.put_text.Tie as tie
-use Rattle.report.proofs.put_text.Reads as reads
-use Rattle.report.proofs.put_text.Lts as lts
-use Rattle.record.proofs.put_bytes.Reads as put-bytes-reads
 
--- src/lib.rt:37:15
 add-end : tie.Need-add-end
 add-end c = search needs
 
--- src/lib.rt:38:23
 sub-put-bytes : tie.Need-sub-put-bytes
 sub-put-bytes c = search needs
 
--- src/lib.rt:38:23
 part-put-bytes-start : tie.Need-part-put-bytes-start
 part-put-bytes-start c = search needs
 
--- src/lib.rt:38:23
 part-put-bytes-end : tie.Need-part-put-bytes-end
 part-put-bytes-end c = search needs
 
--- src/lib.rt:38:5
 put-bytes-requires : tie.Need-put-bytes-requires
 put-bytes-requires c κs = search needs
 
--- src/lib.rt:32:1
 same-length : tie.Need-same-length
 same-length c = search needs
 
--- src/lib.rt:32:1
 returns : tie.Need-returns
 returns c =
     let put = c .before .before .put-bytes in

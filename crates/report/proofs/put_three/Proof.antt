@@ -6,33 +6,25 @@ use Rattle.report.proofs.Lines.{length-three, length-three-named}
 use borrow.Author.Needs.{needs}
 use Rattle.report.proofs.put_three.Statement.{statement}
 use Rattle.report.proofs.put_three.Tie as tie
-use Rattle.report.proofs.put_three.Reads as reads
-use Rattle.report.proofs.put_three.Lts as lts
-use Rattle.report.proofs.put_named.Reads as put-named-reads
 
--- src/lib.rt:81:9
 put-named-requires : tie.Need-put-named-requires
 put-named-requires c κs =
     let a = c .before .before .before .before .before .args in
     omega (arith, length-three-named (a .a .now) (a .x) (a .b .now) (a .y) (a .c .now) (a .z) (a .after))
 
--- src/lib.rt:82:9
 put-named-requires-2 : tie.Need-put-named-requires-2
 put-named-requires-2 c κs =
     let a = c .before .before .before .before .before .before .before .before .before .args in
     omega (arith, length-three-named (a .a .now) (a .x) (a .b .now) (a .y) (a .c .now) (a .z) (a .after))
 
--- src/lib.rt:83:5
 put-named-requires-3 : tie.Need-put-named-requires-3
 put-named-requires-3 c κs =
     let a = c .before .before .before .before .before .before .before .before .before .before .before .before .before .args in
     omega (arith, length-three-named (a .a .now) (a .x) (a .b .now) (a .y) (a .c .now) (a .z) (a .after))
 
--- src/lib.rt:76:1
 same-length : tie.Need-same-length
 same-length c = search needs
 
--- src/lib.rt:76:1
 returns : tie.Need-returns
 unfolding threeNamed
 returns c =
