@@ -1,6 +1,5 @@
--- THE DEMANDS: what the desk promises of its exported functions, each a named proposition, proved in proofs/Demands.antt.
--- Numbers, values and words are document 01's. Definitions.antt beside this page has the words used here, Answers.antt what each
--- function answers. A code is any value of its type with 64 places; nothing else is asked of it. Assumes nothing.
+-- THE DEMANDS: what the desk promises of its exported functions, each a named proposition, proved in proofs/Demands.antt. Numbers, values and
+-- words are document 01's. Definitions.antt beside this page has the words used here, Answers.antt what each function answers. Assumes nothing.
 use mathlib.Core.Path.{_≡_}
 use mathlib.Core.Logic.{_≢_, _⊎_, _↔_}
 use mathlib.Core.Bool.{cond}
