@@ -40,11 +40,11 @@ reading-refuses = words.reading-refuses
 pub clean-exactly : demands.CleanExactly
 clean-exactly = words.clean-exactly-written
 
-pub verdicts-exactly : demands.VerdictsExactly
-verdicts-exactly = words.verdicts-exactly
-
 pub clean-as-read : demands.CleanAsRead
 clean-as-read = words.clean-as-read
+
+pub verdicts-exactly : demands.VerdictsExactly
+verdicts-exactly = words.verdicts-exactly
 
 pub one-flip : demands.OneFlip
 one-flip = words.one-flip

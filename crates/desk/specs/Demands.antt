@@ -103,6 +103,11 @@ CleanExactly =
     (code : Code) → Accepted code → (low high : ℕ) → low < 2 ^ code .k → high < 2 ^ code .r
     → (readOf code low high .verdict ≡ 0) ↔ (writtenOf code low .check ≡ high)
 
+abbrev pub CleanAsRead : Type 0
+CleanAsRead =
+    (code : Code) → Accepted code → (w : ℕ) → Unstrayed code w → Clean code w
+    → (read code w .place ≡ 255) × (handedBack code (read code w) ≡ w)
+
 -- The table of verdicts, with the syndrome as document 01 has it: the written check bits of the data as read, exclusive-ored with those as read.
 abbrev pub VerdictsExactly : Type 0
 VerdictsExactly =
@@ -114,11 +119,6 @@ VerdictsExactly =
     × ((v ≡ 2) ↔ ((p : ℕ) × (code .k ≤ p) × (p < placesOf code) × (column (matrixOf code) p ≡ s)))
     × ((v ≡ 3) ↔ ((s ≢ 0) × (oddOnes s ≡ 0)))
     × ((v ≡ 4) ↔ ((oddOnes s ≡ 1) × ((p : ℕ) → p < placesOf code → column (matrixOf code) p ≢ s)))
-
-abbrev pub CleanAsRead : Type 0
-CleanAsRead =
-    (code : Code) → Accepted code → (w : ℕ) → Unstrayed code w → Clean code w
-    → (read code w .place ≡ 255) × (handedBack code (read code w) ≡ w)
 
 -- One flipped place of a clean word is found, 1 for a data bit and 2 for a check bit, named, and put right.
 abbrev pub OneFlip : Type 0
@@ -156,8 +156,7 @@ LeftAsRead =
 -- ---- explanations
 
 -- Explaining refuses in this order: the code's number and place; 7 for a stray bit; 11 for a limit over 2; 10, told the list's length, where that
--- is more than half the lent bytes, rounded down. A refusal changes no byte. Else the length is handed back, and the lent bytes hold the
--- entries and then what they held.
+-- is over half the lent bytes, rounded down. A refusal changes no byte. Else the lent bytes hold the list's entries, then what they held.
 abbrev pub ExplainingRefuses : Type 0
 ExplainingRefuses =
     (code : Code) (low high limit : ℕ) (list : List ℕ)

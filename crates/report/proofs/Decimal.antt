@@ -1,8 +1,8 @@
--- Laws of numbers in decimal: the last digit stands behind the others, and how many there are. Assumes nothing.
+-- Laws of numbers in decimal: the last digit stands behind the others, how many there are, and that they say the number. Assumes nothing.
 use mathlib.Core.Path.{_≡_, refl, ap, _∙_}
 use mathlib.Core.Bool.{cond}
 use mathlib.Core.List.{List, [], _∷_, _++_}
-use Prim.Native.Nat.{ℕ, zero, suc, _+_, _/_, _%_, _^_, _≤_, _<_}
+use Prim.Native.Nat.{ℕ, zero, suc, _+_, _-_, _*_, _/_, _%_, _^_, _≤_, _<_}
 use native.Mathlib.Decide.{decLt}
 use native.Mathlib.Omega.{arith}
 use borrow.Author.Tests.{lt-ltb, le-ltb}
@@ -41,3 +41,27 @@ decimal-short (suc k) n h =
       | yes l ↦ rw (decimal-one n l) (omega arith)
       | no l ↦ omega (arith, length-more n (omega arith), decimal-short k (n / 10) (omega arith))
     ]
+
+-- what digits say, read from the left behind digits that say a
+unfoldable pub saidFrom : ℕ → List ℕ → ℕ
+saidFrom a [] = a
+saidFrom a (d ∷ ds) = saidFrom (a * 10 + (d - digit 0)) ds
+
+said-last : (a d : ℕ) (ds : List ℕ) → saidFrom a (ds ++ (digit d ∷ [])) ≡ saidFrom a ds * 10 + d
+unfolding saidFrom
+said-last a d [] = omega arith
+said-last a d (e ∷ ds) = said-last (a * 10 + (e - digit 0)) d ds
+
+-- the digits of n say n
+said-in : (m n : ℕ) → n ≤ m → saidFrom 0 (decimalIn m n) ≡ n
+unfolding decimalIn saidFrom
+said-in zero n h = omega arith
+said-in (suc m) n h =
+    elim (decLt n 10) as (λ d. saidFrom 0 (decimalIn (suc m) n) ≡ n) [
+      | yes l ↦ simp (lt-ltb _ _ l) (omega arith)
+      | no l ↦ simp (le-ltb n 10 (omega arith)) (omega (arith, said-last 0 (n % 10) (decimalIn m (n / 10)), said-in m (n / 10) (omega arith)))
+    ]
+
+pub decimal-says : (n : ℕ) → saidFrom 0 (decimalOf n) ≡ n
+unfolding decimalOf
+decimal-says n = said-in n n (omega arith)

@@ -27,106 +27,6 @@ abbrev put-decimal-below : ℕ → In 1 put-decimal-kinds.ps
 put-decimal-below t =
     and 1 put-decimal-kinds.ps (falls 1 put-decimal-kinds.ps _<_ μ-put-decimal t) put-decimal.Pre
 
-put-decimal-cast-put-byte : (t : ℕ) → put-decimal-lts.Need-cast-put-byte (
-  put-byte-reads.Asked,
-  put-byte-reads.Learnt,
-  put-decimal-below t,
-  put-decimal.Post,
-) (put-decimal-at t) put-decimal.Post
-put-decimal-cast-put-byte t c = omega arith
-
-put-decimal-add-put-byte : (t : ℕ) → put-decimal-lts.Need-add-put-byte (
-  put-byte-reads.Asked,
-  put-byte-reads.Learnt,
-  put-decimal-below t,
-  put-decimal.Post,
-) (put-decimal-at t) put-decimal.Post
-put-decimal-add-put-byte t c = omega arith
-
-put-decimal-put-byte-requires : (t : ℕ) → put-decimal-lts.Need-put-byte-requires (
-  put-byte-reads.Asked,
-  put-byte-reads.Learnt,
-  put-decimal-below t,
-  put-decimal.Post,
-) (put-decimal-at t) put-decimal.Post
-put-decimal-put-byte-requires t c κs = omega (arith, ap length (decimal-one (c .before .before .before .args .n) (c .before .if1 .taken)))
-
-put-decimal-same-length : (t : ℕ) → put-decimal-lts.Need-same-length (
-  put-byte-reads.Asked,
-  put-byte-reads.Learnt,
-  put-decimal-below t,
-  put-decimal.Post,
-) (put-decimal-at t) put-decimal.Post
-put-decimal-same-length t c = omega arith
-
-put-decimal-returns : (t : ℕ) → put-decimal-lts.Need-returns (
-  put-byte-reads.Asked,
-  put-byte-reads.Learnt,
-  put-decimal-below t,
-  put-decimal.Post,
-) (put-decimal-at t) put-decimal.Post
-put-decimal-returns t c =
-    let a = c .before .before .before .before .before .before .args in
-    rw (decimal-one (a .n) (c .before .before .before .before .if1 .taken)) (c .before .before .put-byte .ensures)
-
-put-decimal-put-decimal-requires : (t : ℕ) → put-decimal-lts.Need-put-decimal-requires (
-  put-byte-reads.Asked,
-  put-byte-reads.Learnt,
-  put-decimal-below t,
-  put-decimal.Post,
-) (put-decimal-at t) put-decimal.Post
-put-decimal-put-decimal-requires t c κs = omega (arith, length-more (c .before .before .before .args .n) (c .before .if1 .left))
-
-put-decimal-cast-put-byte-2 : (t : ℕ) → put-decimal-lts.Need-cast-put-byte-2 (
-  put-byte-reads.Asked,
-  put-byte-reads.Learnt,
-  put-decimal-below t,
-  put-decimal.Post,
-) (put-decimal-at t) put-decimal.Post
-put-decimal-cast-put-byte-2 t c = omega arith
-
-put-decimal-add-put-byte-2 : (t : ℕ) → put-decimal-lts.Need-add-put-byte-2 (
-  put-byte-reads.Asked,
-  put-byte-reads.Learnt,
-  put-decimal-below t,
-  put-decimal.Post,
-) (put-decimal-at t) put-decimal.Post
-put-decimal-add-put-byte-2 t c = omega arith
-
-put-decimal-put-byte-requires-2 : (t : ℕ) → put-decimal-lts.Need-put-byte-requires-2 (
-  put-byte-reads.Asked,
-  put-byte-reads.Learnt,
-  put-decimal-below t,
-  put-decimal.Post,
-) (put-decimal-at t) put-decimal.Post
-put-decimal-put-byte-requires-2 t c κs =
-    let e = c .before .before .before .before .before in
-    omega (arith, length-more (e .before .before .args .n) (e .if1 .left))
-
-put-decimal-same-length-2 : (t : ℕ) → put-decimal-lts.Need-same-length-2 (
-  put-byte-reads.Asked,
-  put-byte-reads.Learnt,
-  put-decimal-below t,
-  put-decimal.Post,
-) (put-decimal-at t) put-decimal.Post
-put-decimal-same-length-2 t c = omega arith
-
-put-decimal-returns-2 : (t : ℕ) → put-decimal-lts.Need-returns-2 (
-  put-byte-reads.Asked,
-  put-byte-reads.Learnt,
-  put-decimal-below t,
-  put-decimal.Post,
-) (put-decimal-at t) put-decimal.Post
-put-decimal-returns-2 t c =
-    let e = c .before .before .before .before .before .before .before .before in
-    let a = e .before .before .args in
-    let first = c .before .before .before .before .before .before .put-decimal in
-    let last = c .before .before .put-byte2 in
-    rw (decimal-more (a .n) (e .if1 .left))
-    (both (a .at) (first .result) (last .result) (decimalOf (a .n / 10)) (digit (a .n % 10) ∷ []) (a .out .now) (first .last .0) (last .last .0)
-    (omega (arith, length-more (a .n) (e .if1 .left)))
-    (first .ensures) (last .ensures))
-
 pub +put-decimal-spec : {M : Type 1} → statement M
 +put-decimal-spec = close μ-put-decimal λ t. put-decimal-lts.spec (
   put-byte-reads.Asked,
@@ -136,14 +36,34 @@ pub +put-decimal-spec : {M : Type 1} → statement M
 )
     (put-decimal-at t)
     put-decimal.Post
-    (put-decimal-cast-put-byte t)
-    (put-decimal-add-put-byte t)
-    (put-decimal-put-byte-requires t)
-    (put-decimal-same-length t)
-    (put-decimal-returns t)
-    (put-decimal-put-decimal-requires t)
-    (put-decimal-cast-put-byte-2 t)
-    (put-decimal-add-put-byte-2 t)
-    (put-decimal-put-byte-requires-2 t)
-    (put-decimal-same-length-2 t)
-    (put-decimal-returns-2 t)
+    -- a number of one digit
+    (λ c. omega arith)
+    (λ c. omega arith)
+    (λ c κs. omega (arith, ap length (decimal-one (c .before .before .before .args .n) (c .before .if1 .taken))))
+    (λ c. omega arith)
+    (
+    λ c.
+    let a = c .before .before .before .before .before .before .args in
+    rw (decimal-one (a .n) (c .before .before .before .before .if1 .taken)) (c .before .before .put-byte .ensures)
+    )
+    -- the digits before the last, then the last
+    (λ c κs. omega (arith, length-more (c .before .before .before .args .n) (c .before .if1 .left)))
+    (λ c. omega arith)
+    (λ c. omega arith)
+    (
+    λ c κs.
+    let e = c .before .before .before .before .before in
+    omega (arith, length-more (e .before .before .args .n) (e .if1 .left))
+    )
+    (λ c. omega arith)
+    (
+    λ c.
+    let e = c .before .before .before .before .before .before .before .before in
+    let a = e .before .before .args in
+    let first = c .before .before .before .before .before .before .put-decimal in
+    let last = c .before .before .put-byte2 in
+    rw (decimal-more (a .n) (e .if1 .left))
+    (both (a .at) (first .result) (last .result) (decimalOf (a .n / 10)) (digit (a .n % 10) ∷ []) (a .out .now) (first .last .0) (last .last .0)
+    (omega (arith, length-more (a .n) (e .if1 .left)))
+    (first .ensures) (last .ensures))
+    )
