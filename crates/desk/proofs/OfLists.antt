@@ -17,7 +17,8 @@ use Rattle.explain.proofs.Answers as answers
 use Rattle.explain.proofs.Explanations as laws
 use Rattle.desk.specs.declared.Listing.{Listing}
 use Rattle.desk.specs.Answers.{judgementOf, listingOf}
-use Rattle.desk.specs.Definitions.{Accepted, placesOf}
+use Rattle.desk.specs.Definitions.{Accepted}
+use Rattle.word.specs.Verdicts.{placesOf}
 use Rattle.desk.specs.Demands as demands
 use Rattle.desk.proofs.Codes.{taken-of}
 use Rattle.desk.proofs.Words.{reads-clean, clean-of}

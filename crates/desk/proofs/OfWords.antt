@@ -25,7 +25,7 @@ use Rattle.word.specs.declared.Written.the-variants as wr
 use Rattle.word.specs.Word.{wordOf}
 use Rattle.word.specs.Writing as writing
 use Rattle.word.specs.Reading as reading
-use Rattle.word.specs.Verdicts.{wordAt, syndrome, Row}
+use Rattle.word.specs.Verdicts.{placesOf, Unstrayed, wordAt, syndrome, Row}
 use Rattle.word.proofs.Cases.{read-refused, read-accepted, in-stray, write-refused, write-stray, write-checks}
 use Rattle.word.proofs.Syndromes.{written-is-mix}
 use Rattle.word.proofs.Verdicts.{sound, size, reading-exactly, read-row}
@@ -33,7 +33,7 @@ use Rattle.word.proofs.Mending.{one-data, one-check, two-even, data-mended, che
 use Rattle.desk.specs.declared.CheckWord.{CheckWord}
 use Rattle.desk.specs.declared.ReadWord.{ReadWord}
 use Rattle.desk.specs.Answers.{writtenOf, readOf}
-use Rattle.desk.specs.Definitions.{Accepted, placesOf, Unstrayed, read, handedBack}
+use Rattle.desk.specs.Definitions.{Accepted, read, handedBack}
 use Rattle.desk.specs.Demands as demands
 use Rattle.code.proofs.Answers.{zero-accepts, refused-test}
 use Rattle.desk.proofs.Codes.{taken-of}

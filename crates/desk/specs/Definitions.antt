@@ -36,18 +36,11 @@ Refused code = ¬ (judgementOf code .number ≡ 0)
 abbrev pub Stored : Code → Type 0
 Stored code = (p : ℕ) → p < 64 → column (code .columns) p < 2 ^ 16
 
--- its k data columns, and the number n of its places
+-- its k data columns; `placesOf` of crate word is the number n of its places
 abbrev pub dataColumns : Code → List ℕ
 dataColumns code = take (code .k) (code .columns)
 
-abbrev pub placesOf : Code → ℕ
-placesOf code = code .k + code .r
-
--- ---- a word is one number: place p is its binary digit p, the data bits lowest
-
--- no stray bit
-abbrev pub Unstrayed : Code → ℕ → Type 0
-Unstrayed code w = w < 2 ^ placesOf code
+-- ---- a word is one number: place p is its binary digit p, the data bits lowest; `Unstrayed` of crate word says that it has no stray bit
 
 -- reading it, and the word that a reading hands back
 abbrev pub read : Code → ℕ → ReadWord

@@ -21,6 +21,7 @@ use Rattle.balance.specs.Balance.{sumℤ}
 use Rattle.record.specs.Layout.{entrySize, recordBytes, entryBytes}
 use Rattle.record.specs.Run.{recordAt, over}
 use Rattle.record.specs.Tally.{tallyBy}
+use Rattle.word.specs.Verdicts.{placesOf, Unstrayed}
 use Rattle.explain.specs.Sets.{flipAll, bytesFor}
 use Rattle.explain.specs.Order.{SetOf, InOrder}
 use Rattle.explain.specs.Explanations.{explanations, explanationsOf, listAfter}
@@ -30,7 +31,7 @@ use Rattle.pass.specs.Pass.{entriesNeeded}
 use Rattle.pass.specs.Says.{Image, NoImage, Run, NoRun}
 use Rattle.pass.specs.Twice.{added, tallyAgain}
 use Rattle.desk.specs.Answers.{checkBitsOf, judgementOf, rowsOf, writtenOf, readOf, listingOf, cardsOf, passedOf}
-use Rattle.desk.specs.Definitions.{Handed, Stored, Accepted, Refused, dataColumns, placesOf, Unstrayed, read, handedBack, Clean, refusedWriting, refusedReading, refusedListing, refusedCards, PassRefused, only, record₁₀, readAt, verdictOf, placeFor, imageAfter, journalAfter, Done, countFrom}
+use Rattle.desk.specs.Definitions.{Handed, Stored, Accepted, Refused, dataColumns, read, handedBack, Clean, refusedWriting, refusedReading, refusedListing, refusedCards, PassRefused, only, record₁₀, readAt, verdictOf, placeFor, imageAfter, journalAfter, Done, countFrom}
 
 -- ---- the code
 
@@ -53,11 +54,11 @@ JudgedExactly =
     (code : Code) (v : Judged)
     → ((judgementOf code .number ≡ numberOf v) × (judgementOf code .told ≡ toldOf v)) ↔ Says 64 (code .columns) (code .k) (code .r) v
 
--- Check bits wanted: refused by 1 exactly for k 0 and k over 64; else the answer is the smallest r for which an accepted code of k data bits
--- exists: there is one, and every accepted code of k data bits has at least as many.
+-- Check bits wanted is refused by 1 exactly for k 0 and k over 64.
 abbrev pub CheckBitsRefused : Type 0
 CheckBitsRefused = (k : ℕ) → (checkBitsOf k .number ≡ 1) ↔ ((k ≡ 0) ⊎ (64 < k))
 
+-- Else it is the smallest r for which an accepted code of k data bits exists: there is one, and every accepted code of k data bits has at least as many.
 abbrev pub CheckBitsLeast : Type 0
 CheckBitsLeast =
     (k : ℕ) → 1 ≤ k → k ≤ 64
@@ -267,8 +268,7 @@ PassEntries =
     → (i : ℕ) × (a ≤ i) × (i < b) × (verdictOf code image i ≢ 0) × (entriesNeeded code image a i ≡ m))
     × (drop (24 * entriesNeeded code image a b) (journalAfter code image a b journal) ≡ drop (24 * entriesNeeded code image a b) journal)
 
--- Each count of a done pass is the number of the run's records with that verdict; the six add up to the run's length, and the five that are
--- no 0 to the number of entries.
+-- Each count of a done pass is the number of the run's records with that verdict; the six add up to the run's length, the last five to the entries.
 abbrev pub PassCounts : Type 0
 PassCounts =
     (code : Code) → Handed code → (image : List ℕ) (a b : ℕ) (journal : List ℕ) → Done code image a b journal

@@ -18,9 +18,6 @@ is-ready c =
     let places : length (o .before .args .code .columns) ≡ 64 = search needs in
     ready (o .before .args .code) places (o .open-code .result) (o .open-code .ensures) (c .enum-told .given .1)
 
-all-places : (c : tie.After-enum-told) → length (c .before .before .open-code .result .columns) ≡ 80
-all-places c = search needs
-
 open-code-requires : tie.Need-open-code-requires
 open-code-requires c κs = search needs
 
@@ -40,26 +37,18 @@ returns c =
     (refused (o .open-code .result .verdict) (c .before .before .match .keys2)) _ _ (c .before .number-of .ensures) (c .told-of .ensures)
 
 add-n : tie.Need-add-n
-add-n c =
-    let l = is-ready (c .before) .limits in
-    omega (arith, l .sized .few)
+add-n c = omega (arith, is-ready (c .before) .few)
 
 array-share-prefix-columns : tie.Need-array-share-prefix-columns
-array-share-prefix-columns c =
-    let l = is-ready (c .before .before) .limits in
-    let n = all-places (c .before .before) in
-    omega (arith, l .sized .few)
+array-share-prefix-columns c = is-ready (c .before .before) .room
 
 slice-aggregate-balance-rows : tie.Need-slice-aggregate-balance-rows
-slice-aggregate-balance-rows c =
-    let l = is-ready (c .before .before .before) .limits in
-    let n = all-places (c .before .before .before) in
-    sym (length-take-le _ _ (omega (arith, l .sized .few)))
+slice-aggregate-balance-rows c = is-ready (c .before .before .before) .part
 
 balance-rows-requires : tie.Need-balance-rows-requires
 balance-rows-requires c κs =
-    let l = is-ready (c .before .before .before) .limits in
-    (l .top, omega (arith, l .sized .few, slice-aggregate-balance-rows c))
+    let t = is-ready (c .before .before .before) in
+    (t .limits .top, omega (arith, t .few, t .part))
 
 returns-2 : tie.Need-returns-2
 returns-2 c =

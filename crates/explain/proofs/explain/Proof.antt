@@ -26,17 +26,6 @@ is-ready c =
     let o = c .before .before in
     ready (o .before .before .args .code) (places c) (o .open-code .result) (o .open-code .ensures) (c .enum-told .given .1)
 
-all-places : (c : tie.After-enum-told) → length (c .before .before .open-code .result .columns) ≡ 80
-all-places c = search needs
-
--- the n columns are a part of the 80
-part-fits : (c : tie.After-enum-told) → let a = c .before .before .before .before .args .code in a .k + a .r ≤ length (c .before .before .open-code .result .columns)
-part-fits c = let l = is-ready c .limits in omega (arith, all-places c, l .sized .few, l .top)
-
-columns-long : (c : tie.After-enum-told) → let a = c .before .before .before .before .args .code in
-    length (take (a .k + a .r) (c .before .before .open-code .result .columns)) ≡ a .k + a .r
-columns-long c = let t = is-ready c in ap length (t .laid) ∙ t .size
-
 -- past the test for stray bits
 is-heard : (c : tie.Else1) → let a = c .before .before .before .before .before .before .before .args in Heard (a .code) (a .word .«data») (a .word .check)
 is-heard c =
@@ -77,7 +66,7 @@ returns c =
     refl
 
 add-n : tie.Need-add-n
-add-n c = let l = is-ready (c .before) .limits in omega (arith, l .sized .few)
+add-n c = omega (arith, is-ready (c .before) .few)
 
 stray-in-requires : tie.Need-stray-in-requires
 stray-in-requires c κs = search needs
@@ -96,26 +85,25 @@ returns-3 c =
     claims (a .code) (a .word .«data») (a .word .check) (a .limit) (a .list .now) (a .list .now) OverLimit (is-heard (c .before), c .if2 .taken) refl
 
 array-share-prefix-columns : tie.Need-array-share-prefix-columns
-array-share-prefix-columns c = part-fits (c .before .before .before .before .before)
+array-share-prefix-columns c = is-ready (c .before .before .before .before .before) .room
 
 slice-aggregate-syndrome-in : tie.Need-slice-aggregate-syndrome-in
-slice-aggregate-syndrome-in c = sym (length-take-le _ _ (part-fits (c .before .before .before .before .before .before)))
+slice-aggregate-syndrome-in c = is-ready (c .before .before .before .before .before .before) .part
 
 syndrome-in-requires : tie.Need-syndrome-in-requires
 syndrome-in-requires c κs =
-    omega (arith, columns-long (c .before .before .before .before .before .before))
+    omega (arith, is-ready (c .before .before .before .before .before .before) .part)
 
 array-share-prefix-columns-2 : tie.Need-array-share-prefix-columns-2
-array-share-prefix-columns-2 c = part-fits (c .before .before .before .before .before .before .before)
+array-share-prefix-columns-2 c = is-ready (c .before .before .before .before .before .before .before) .room
 
 slice-aggregate-put-list : tie.Need-slice-aggregate-put-list
-slice-aggregate-put-list c = sym (length-take-le _ _ (part-fits (c .before .before .before .before .before .before .before .before)))
+slice-aggregate-put-list c = is-ready (c .before .before .before .before .before .before .before .before) .part
 
 put-list-requires : tie.Need-put-list-requires
 put-list-requires c κs =
-    let t = c .before .before .before .before .before .before .before .before .before in
-    let l = is-ready t .limits in
-    omega (arith, columns-long t, l .sized .few, l .top)
+    let t = is-ready (c .before .before .before .before .before .before .before .before .before) in
+    omega (arith, t .few, t .part)
 
 same-length : tie.Need-same-length
 same-length c = search needs

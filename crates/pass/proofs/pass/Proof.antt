@@ -24,9 +24,6 @@ is-ready c =
     let places : length (start o .args .code .columns) ≡ 64 = search needs in
     ready (start o .args .code) places (o .open-code .result) (o .open-code .ensures) (c .enum-told .given .1)
 
-all-places : (c : tie.After-enum-told) → length (c .before .before .open-code .result .columns) ≡ 80
-all-places c = search needs
-
 open-code-requires : tie.Need-open-code-requires
 open-code-requires c κs = search needs
 
@@ -43,28 +40,18 @@ returns c =
     refl refl refl
 
 add-n : tie.Need-add-n
-add-n c =
-    let l = is-ready (c .before) .limits in
-    omega (arith, l .sized .few)
+add-n c = omega (arith, is-ready (c .before) .few)
 
 array-share-prefix-columns : tie.Need-array-share-prefix-columns
-array-share-prefix-columns c =
-    let l = is-ready (c .before .before) .limits in
-    let n = all-places (c .before .before) in
-    omega (arith, l .sized .few)
+array-share-prefix-columns c = is-ready (c .before .before) .room
 
 slice-aggregate-pass-in : tie.Need-slice-aggregate-pass-in
-slice-aggregate-pass-in c =
-    let l = is-ready (c .before .before .before) .limits in
-    let n = all-places (c .before .before .before) in
-    sym (length-take-le _ _ (omega (arith, l .sized .few)))
+slice-aggregate-pass-in c = is-ready (c .before .before .before) .part
 
 pass-in-requires : tie.Need-pass-in-requires
 pass-in-requires c κs =
     let t = is-ready (c .before .before .before .before .before) in
-    let l = t .limits in
-    let n = ap length (t .laid) ∙ t .size in
-    (omega (arith, l .sized .few), omega arith, omega arith)
+    (t .limits .sized .few, omega (arith, t .part), omega (arith, t .limits .top, t .part))
 
 same-length : tie.Need-same-length
 same-length c = search needs

@@ -20,9 +20,6 @@ is-ready c =
     let places : length (o .before .args .code .columns) ≡ 64 = search needs in
     ready (o .before .args .code) places (o .open-code .result) (o .open-code .ensures) (c .enum-told .given .1)
 
-all-places : (c : tie.After-enum-told) → length (c .before .before .open-code .result .columns) ≡ 80
-all-places c = search needs
-
 open-code-requires : tie.Need-open-code-requires
 open-code-requires c κs = search needs
 
@@ -37,28 +34,18 @@ returns c =
     sym (read-refused (a .code) (a .word .«data») (a .word .check) v (ap (λ x. x .verdict) (o .open-code .ensures)) (refused v (c .match .keys2)))
 
 add-n : tie.Need-add-n
-add-n c =
-    let l = is-ready (c .before) .limits in
-    omega (arith, l .sized .few)
+add-n c = omega (arith, is-ready (c .before) .few)
 
 array-share-prefix-columns : tie.Need-array-share-prefix-columns
-array-share-prefix-columns c =
-    let l = is-ready (c .before .before) .limits in
-    let n = all-places (c .before .before) in
-    omega (arith, l .sized .few)
+array-share-prefix-columns c = is-ready (c .before .before) .room
 
 slice-aggregate-read-in : tie.Need-slice-aggregate-read-in
-slice-aggregate-read-in c =
-    let l = is-ready (c .before .before .before) .limits in
-    let n = all-places (c .before .before .before) in
-    sym (length-take-le _ _ (omega (arith, l .sized .few)))
+slice-aggregate-read-in c = is-ready (c .before .before .before) .part
 
 read-in-requires : tie.Need-read-in-requires
 read-in-requires c κs =
     let t = is-ready (c .before .before .before) in
-    let l = t .limits in
-    let n = ap length (t .laid) ∙ t .size in
-    (omega (arith, l .sized .few), omega arith, omega arith)
+    (t .limits .sized .few, omega (arith, t .part), omega (arith, t .limits .top, t .part))
 
 returns-2 : tie.Need-returns-2
 returns-2 c =
