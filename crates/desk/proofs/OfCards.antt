@@ -1,14 +1,12 @@
 -- The demands on the card check, proved from the layers' laws. Assumes nothing.
 use mathlib.Core.Path.{_≡_, refl, sym, ap, ap₂, _∙_}
-use mathlib.Core.Logic.{_⊎_, inl, inr, ⊎-elim, _↔_}
+use mathlib.Core.Logic.{_⊎_, inl, inr, ⊎-elim}
 use Prim.Native.Nat.{ℕ, _*_, _≤_, _<_}
 use native.Mathlib.Omega.{arith}
 use Rattle.code.specs.declared.Code.{Code}
-use Rattle.code.specs.declared.Judged.{Judged}
 use Rattle.code.specs.declared.Judged.the-variants as v
 use Rattle.code.specs.Judge.{judgeOf}
 use Rattle.code.specs.Judge as judge
-use Rattle.code.specs.Rule.{matrixOf}
 use Rattle.word.specs.declared.Word.{Word}
 use Rattle.word.specs.Word.{wordOf}
 use Rattle.cards.specs.declared.Carded.{Carded}

@@ -1,7 +1,6 @@
 -- The demands on explanations, proved from the layers' laws. Assumes nothing.
-use mathlib.Core.Path.{_≡_, refl, sym, ap, _∙_}
-use mathlib.Core.Logic.{_↔_}
-use mathlib.Core.List.{List, [], _∷_}
+use mathlib.Core.Path.{_≡_, refl, ap}
+use mathlib.Core.List.{List}
 use Prim.Native.Nat.{ℕ}
 use lib.ListN.{length}
 use Rattle.code.specs.declared.Code.{Code}
@@ -10,13 +9,13 @@ use Rattle.record.specs.Run.{over}
 use Rattle.explain.specs.declared.Explained.{Explained}
 use Rattle.explain.specs.declared.Explained.the-variants as x
 use Rattle.explain.specs.Sets.{flipAll, bytesFor}
-use Rattle.explain.specs.Explanations.{explanationsOf, explainedOf, leftBy, listAfter, Says, Heard}
+use Rattle.explain.specs.Explanations.{explanationsOf, leftBy, listAfter, Says, Heard}
 use Rattle.explain.specs.Explanations as explaining
 use Rattle.explain.proofs.Flips.{flip-all-lt}
 use Rattle.explain.proofs.Answers as answers
 use Rattle.explain.proofs.Explanations as laws
 use Rattle.desk.specs.declared.Listing.{Listing}
-use Rattle.desk.specs.Answers.{judgementOf, listingOf}
+use Rattle.desk.specs.Answers.{listingOf}
 use Rattle.desk.specs.Definitions.{Accepted}
 use Rattle.word.specs.Verdicts.{placesOf}
 use Rattle.desk.specs.Demands as demands

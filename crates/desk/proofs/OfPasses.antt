@@ -1,26 +1,24 @@
 -- The demands on the pass, proved from the layers' laws. Assumes nothing.
-use mathlib.Core.Path.{_≡_, refl, sym, ap, ap₂, subst, _∙_}
+use mathlib.Core.Path.{_≡_, refl, sym, ap, ap₂, _∙_}
 use mathlib.Core.Bool.{cond}
-use mathlib.Core.Logic.{_≢_, _⊎_, inl, inr, ⊎-elim}
+use mathlib.Core.Logic.{_≢_, inl, inr, ⊎-elim}
 use mathlib.Core.List.{List}
-use Prim.Native.Nat.{ℕ, zero, suc, _+_, _*_, _-_, _≤_, _<_}
+use Prim.Native.Nat.{ℕ, zero, suc, _+_, _*_, _-_}
 use native.Mathlib.Omega.{arith}
 use lib.Dec.{eqb}
-use lib.ListN.{length, drop}
+use lib.ListN.{drop}
 use Rattle.code.specs.declared.Code.{Code}
 use Rattle.code.specs.declared.Judged.the-variants as v
 use Rattle.code.specs.Judge.{judgeOf}
 use Rattle.code.specs.Judge as judge
 use Rattle.code.specs.Rule.{matrixOf, AcceptedCode}
 use Rattle.code.proofs.Answers.{zero-accepts}
-use Rattle.word.specs.declared.Word.{Word}
 use Rattle.word.specs.declared.Reading.{Reading}
 use Rattle.word.specs.declared.Reading.the-variants as r
 use Rattle.word.specs.Reading as reading
-use Rattle.record.specs.declared.Tally.{Tally}
 use Rattle.record.specs.Layout.{recordSize, entrySize, recordBytes, dataIn, checkIn, entryBytes}
-use Rattle.record.specs.Run.{recordAt, fromRecord, sum}
-use Rattle.record.specs.Tally.{oneIf, tallyBy}
+use Rattle.record.specs.Run.{fromRecord, sum}
+use Rattle.record.specs.Tally.{oneIf}
 use Rattle.record.proofs.Run.{record-drop}
 use Rattle.record.proofs.Tallies.{tally-same}
 use Rattle.pass.specs.declared.Passed.{Passed}
@@ -29,16 +27,13 @@ use Rattle.pass.specs.Outcome as outcome
 use Rattle.pass.specs.Pass.{afterPass, entriesNeeded, readingAt, verdictAt, countRun}
 use Rattle.pass.specs.Pass as passing
 use Rattle.pass.specs.Says.{Image, Run, Says, Asked}
-use Rattle.pass.specs.Twice.{tallyAgain, added}
-use Rattle.pass.proofs.Table.{afterBy, pass-says, says-after, says-pass}
+use Rattle.pass.proofs.Table.{pass-says, says-after, says-pass}
 use Rattle.pass.proofs.Facts as facts
 use Rattle.pass.proofs.Mended.{reading-is}
 use Rattle.pass.proofs.Twice as twice
-use Rattle.desk.specs.declared.Judgement.{Judgement}
 use Rattle.desk.specs.declared.PassAnswer.{PassAnswer}
-use Rattle.desk.specs.declared.ReadWord.{ReadWord}
-use Rattle.desk.specs.Answers.{judgementOf, readOf, passedOf}
-use Rattle.desk.specs.Definitions.{Handed, Accepted, PassRefused, record₁₀, readAt, verdictOf, placeFor, imageAfter, journalAfter, Done, countFrom}
+use Rattle.desk.specs.Answers.{readOf, passedOf}
+use Rattle.desk.specs.Definitions.{Handed, Accepted, record₁₀, verdictOf, placeFor, imageAfter, journalAfter, Done, countFrom}
 use Rattle.desk.specs.Demands as demands
 use Rattle.desk.proofs.Codes.{taken-of}
 
@@ -210,14 +205,19 @@ pass-again code handed image a b journal done again room =
     (ap pass-answer (x .0), x .1)
 
 pub pass-in-two : demands.PassInTwo
-pass-in-two code image a b c journal first second =
+pass-in-two code image a b c journal =
     let left = imageAfter code image a b journal in
     let rest = drop (entrySize * entriesNeeded code image a b) (journalAfter code image a b journal) in
     let s = passedOf code image a b journal .tally in
-    let t = passedOf code left b c rest .tally in
-    let e = done-of code image a b journal first in
-    let f = done-of code left b c rest second in (
-      ap pass-answer (twice.both-done code image a b c journal s e t f),
-      twice.both-image code image a b c journal s e t f,
-      twice.both-journal code image a b c journal s e t f,
+    let t = passedOf code left b c rest .tally in (
+      λ up on d.
+          let x = twice.done-both code image a b c journal (passedOf code image a c journal .tally) (done-of code image a c journal d) up on in
+          (ap passing.numberOf (x .0), ap passing.numberOf (x .1)),
+      λ first second.
+          let e = done-of code image a b journal first in
+          let f = done-of code left b c rest second in (
+            ap pass-answer (twice.both-done code image a b c journal s e t f),
+            twice.both-image code image a b c journal s e t f,
+            twice.both-journal code image a b c journal s e t f,
+          ),
     )

@@ -1,21 +1,15 @@
 -- What the verdict of an accepted code's word says of the reading. Assumes nothing.
-use mathlib.Core.Path.{_≡_, refl, sym, ap, subst, _∙_}
-use mathlib.Core.Logic.{_≢_, _⊎_, inl, inr, ⊎-elim, _↔_}
-use Prim.Native.Nat.{ℕ, _+_, _^_, _≤_, _<_}
+use mathlib.Core.Path.{_≡_, refl, ap}
+use Prim.Native.Nat.{ℕ, _+_}
 use native.Mathlib.Omega.{arith}
-use Rattle.parity.specs.Odd.{oddOnes}
-use Rattle.columns.specs.Mix.{column, flip}
 use Rattle.code.specs.declared.Code.{Code}
-use Rattle.code.specs.Rule.{matrixOf, AcceptedCode}
-use Rattle.word.specs.declared.Word.{Word}
 use Rattle.word.specs.declared.Reading.{Reading}
 use Rattle.word.specs.declared.Reading.the-variants as r
-use Rattle.word.specs.Word.{wordOf, dataOf, checkOf}
+use Rattle.word.specs.Word.{wordOf}
 use Rattle.word.specs.Reading.{readWord, numberOf, toldOf, verdictOf, placeOf, handedBack}
-use Rattle.word.specs.Verdicts.{placesOf, Unstrayed, wordAt, ReadsClean, syndrome, Row}
+use Rattle.word.specs.Verdicts.{Unstrayed, wordAt, ReadsClean, Row}
 use Rattle.word.proofs.Syndromes.{parts-whole}
-use Rattle.word.proofs.Verdicts.{row-read, clean-zero}
-use Rattle.word.proofs.Mending.{data-mended, check-mended, even-unmended, odd-unmended}
+use Rattle.word.proofs.Verdicts.{row-read}
 use Rattle.desk.specs.Definitions.{Accepted, Clean, read}
 use Rattle.desk.specs.Definitions as defs
 use Rattle.desk.proofs.Codes.{taken-of}

@@ -41,12 +41,10 @@ abbrev pub AcceptedExactly : Type 0
 AcceptedExactly =
     (code : Code) → Handed code
     → (judgementOf code .number ≡ 0)
-    ↔ (
-    Limits 64 (code .k) (code .r)
+    ↔ (Limits 64 (code .k) (code .r)
     × ((i : ℕ) → i < code .k → column (dataColumns code) i < 2 ^ code .r)
     × ((p q : ℕ) → p < placesOf code → q < placesOf code → column (matrixOf code) p ≡ column (matrixOf code) q → p ≡ q)
-    × ((p : ℕ) → p < placesOf code → oddOnes (column (matrixOf code) p) ≡ 1)
-    )
+    × ((p : ℕ) → p < placesOf code → oddOnes (column (matrixOf code) p) ≡ 1))
 
 -- Refusals 1 to 6 exactly: the judge gives the number and the told place of an answer v exactly when v's row of the table holds and no earlier one.
 abbrev pub JudgedExactly : Type 0
@@ -286,15 +284,16 @@ PassAgain =
     (again : List ℕ) → t .even + t .odd + t .stray ≤ length again / 24
     → (passedOf code left a b again ≡ record { number = 0; told = 0; tally = tallyAgain t }) × (imageAfter code left a b again ≡ left)
 
--- A pass over [a, b) and then one over [b, c), its journal going on behind the first's entries, are the pass over [a, c): the tallies added,
--- the same image, the same journal.
+-- A pass over [a, b) and then one over [b, c), its journal going on behind the first's entries, are the pass over [a, c): done where it is, and
+-- where both are done, it is, with the tallies added, the same image, the same journal.
 abbrev pub PassInTwo : Type 0
 PassInTwo =
     (code : Code) (image : List ℕ) (a b c : ℕ) (journal : List ℕ)
     → let left = imageAfter code image a b journal in
     let used = 24 * entriesNeeded code image a b in
     let rest = drop used (journalAfter code image a b journal) in
-    Done code image a b journal → Done code left b c rest
+    (a ≤ b → b ≤ c → Done code image a c journal → Done code image a b journal × Done code left b c rest)
+    × (Done code image a b journal → Done code left b c rest
     → (passedOf code image a c journal ≡ record { number = 0; told = 0; tally = added (passedOf code image a b journal .tally) (passedOf code left b c rest .tally) })
     × (imageAfter code image a c journal ≡ imageAfter code left b c rest)
-    × (journalAfter code image a c journal ≡ take used (journalAfter code image a b journal) ++ journalAfter code left b c rest)
+    × (journalAfter code image a c journal ≡ take used (journalAfter code image a b journal) ++ journalAfter code left b c rest))

@@ -143,10 +143,6 @@ totals-within image b h =
 
 -- after the records below b, those up to c
 module _ (image : List ℕ) (b c : ℕ) (h : b ≤ c) (g : c ≤ recordsIn image) where
-  pub length-runLeft : length (runLeft image 0 b) ≡ length image
-  unfolding runLeft
-  length-runLeft = runs.length-overRun recordSize left left-each image 0 b (omega arith) (fits image b (omega arith))
-
   rest-stays : fromRecord recordSize b (runLeft image 0 b) ≡ fromRecord recordSize b image
   unfolding runLeft
   rest-stays = runs.after-stays recordSize left left-each image 0 b (omega arith) (fits image b (omega arith))

@@ -5,7 +5,6 @@ use native.Mathlib.Omega.{arith}
 use borrow.Author.Needs.{needs}
 use Prim.Native.Nat.{ℕ}
 use lib.ListN.{length}
-use lib.Seq.{length-take-le}
 use Rattle.code.proofs.Steps.{refused}
 use Rattle.code.proofs.Ready.{Ready, ready}
 use Rattle.cards.specs.Checking.{cardedIn}

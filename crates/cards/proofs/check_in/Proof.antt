@@ -1,7 +1,7 @@
 -- `cards::check_in` meets its contract. Assumes nothing.
 use mathlib.Core.Path.{sym, _∙_}
 use borrow.Author.Needs.{needs}
-use Rattle.cards.specs.declared.Found.the-variants.{Nothing, At}
+use Rattle.cards.specs.declared.Found.the-variants.{Nothing}
 use Rattle.cards.proofs.Checking.{size-small, size-large, size-fits}
 use Rattle.cards.proofs.check_in.Statement.{statement}
 use Rattle.cards.proofs.check_in.Tie as tie

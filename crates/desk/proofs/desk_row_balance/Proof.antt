@@ -1,5 +1,5 @@
 -- `desk::desk_row_balance` meets its contract: each field is the value of the answer below it. Assumes nothing.
-use mathlib.Core.Path.{ap, _∙_}
+use mathlib.Core.Path.{ap}
 use borrow.Author.Needs.{needs}
 use Rattle.desk.proofs.desk_row_balance.Statement.{statement}
 use Rattle.desk.proofs.desk_row_balance.Tie as tie

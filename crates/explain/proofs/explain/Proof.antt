@@ -1,11 +1,10 @@
 -- `explain::explain` meets its contract: the list by syndrome that was put is the list of explanations. Assumes nothing.
 use mathlib.Core.Path.{_≡_, refl, sym, ap, _∙_}
 use mathlib.Core.Bool.{true≢false}
-use Prim.Native.Nat.{_+_, _≤_}
+use Prim.Native.Nat.{_+_}
 use native.Mathlib.Omega.{arith}
 use borrow.Author.Needs.{needs}
 use lib.ListN.{length, take}
-use lib.Seq.{length-take-le}
 use Rattle.code.specs.Judge.{accepted}
 use Rattle.code.proofs.Steps.{refused}
 use Rattle.code.proofs.Ready.{Ready, ready}
