@@ -1,13 +1,20 @@
-/* Prints the layout of every struct as the C compiler has it; layout.txt holds what it must be. */
+/* Prints version, sizes and the layout of every struct as the C compiler has them; layout.txt says what they must be. */
 #include "desk.h"
 
 #include <stdio.h>
 
+#define SIZE(name) printf(#name " %d\n", DESK_##name)
 #define STRUCT(name) printf(#name " size %zu align %zu\n", sizeof(Desk##name), _Alignof(Desk##name))
 #define FIELD(name, field) \
     printf(#name "." #field " at %zu size %zu\n", offsetof(Desk##name, field), sizeof(((Desk##name *)0)->field))
 
 int main(void) {
+    SIZE(VERSION);
+    SIZE(RECORD);
+    SIZE(ENTRY);
+    SIZE(IMAGE);
+    SIZE(LONGEST_LIST);
+    SIZE(NO_PLACE);
     STRUCT(Code);
     FIELD(Code, columns);
     FIELD(Code, k);

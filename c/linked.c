@@ -38,6 +38,10 @@ static int same_tally(DeskTally t, size_t clean, size_t data, size_t check, size
     return t.clean == clean && t.data == data && t.check == check && t.even == even && t.odd == odd && t.stray == stray;
 }
 
+static void version(void) {
+    expect("desk_version: that of desk.h", desk_version() == DESK_VERSION);
+}
+
 static void code_fields(void) {
     static const int32_t rows[DESK_ROWS] = {-135, -119, -87, -55, -103, -71, -23, 9, -7, 41, 25, 89, 73, 105, 121, 137};
     DeskCheckBits bits = desk_check_bits(64);
@@ -178,6 +182,7 @@ static void refusals_leave_buffers(void) {
 }
 
 int main(void) {
+    version();
     code_fields();
     word_fields();
     list_and_card_fields();

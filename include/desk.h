@@ -3,11 +3,22 @@
  *
  * Link target/staticlib/libdesk.a (x86-64, System V). It needs memcpy and memset, and nothing of the system.
  * Every function is total: it answers any code and any numbers. A code is judged first, by every call.
- * Lent buffers must be valid for their length; image and journal must not overlap. With length 0 any pointer will do.
  *
- * In every answer `number` is 0 (done) or the number of the refusal, and `told` is what goes with it:
- * for 3 to 6 the place of the bad column, for 10 the length of the list, for 13 the entries needed, else 0.
- * A refusal has 0 in every other field (9 has its card and mask) and changes no byte that was lent.
+ * Answers. `number` is 0 (done) or the number of the refusal, and `told` is what goes with that number in the table
+ * below, else 0. Number 9 tells two values, in fields of their own. DeskCheckBits tells nothing, and has no `told`.
+ * A refusal has 0 in every other field and changes no byte that was lent. Answers have padding, whose bytes may be
+ * anything: compare fields, and not the whole by memcmp.
+ *
+ * What is counted. `list_length`, `image_length` and `journal_length` are bytes. Nothing else is:
+ *   start, end  records, from the image's first; the record at `end` is not in the run
+ *   length      entries of the list, two bytes each
+ *   told        with 3 to 6 a place, with 10 entries of the list, with 13 entries of the journal, DESK_ENTRY bytes each
+ *
+ * Lent buffers. Each must be valid for its length, to read and to write. Those that one call is lent must not overlap:
+ * not image and journal, nor any other two. What happens if they do is unspecified. With length 0 nothing is read or
+ * written, and any pointer will do, NULL too.
+ *
+ * Threads. Calls share no state: any number may run at once, on any thread, if no byte is lent to two of them.
  */
 #ifndef DESK_H
 #define DESK_H
@@ -23,23 +34,33 @@
 extern "C" {
 #endif
 
-/* The field `number` of an answer. */
+/*
+ * The version that this header is written for. It is raised whenever a struct, a size or a meaning changes, and
+ * desk_version alone stays as it is. A caller compares it with the archive's before the first other call:
+ *
+ *     if (desk_version() != DESK_VERSION)
+ *         abort();
+ */
+#define DESK_VERSION 1
+
+/* The field `number` of an answer: exactly when, and what is told. It is the table of docs/refusals.txt. */
 enum DeskNumber {
-    DESK_DONE = 0,             /* done */
-    DESK_DATA_BITS = 1,        /* k is 0 or over 64 */
-    DESK_CHECK_BITS = 2,       /* r below 3 or over 16 */
-    DESK_WIDE_COLUMN = 3,      /* a column is 2^r or more; told: its place */
-    DESK_EVEN_COLUMN = 4,      /* a column has an even count of ones, 0 included; told: its place */
-    DESK_SINGLE_ONE = 5,       /* a data column has a single one; told: its place */
-    DESK_REPEATED_COLUMN = 6,  /* a column equals an earlier data column; told: its place */
-    DESK_STRAY_BITS = 7,       /* a data bit at k or above, or a check bit at r or above, is set */
-    DESK_CARD_SIZE = 8,        /* b below 2 or over 8 */
-    DESK_WEAK_CARD = 9,        /* the code is not card-proof for b; card and mask say where */
-    DESK_LIST_ROOM = 10,       /* the list is longer than its room; told: its length */
-    DESK_FLIP_LIMIT = 11,      /* the flip limit is over 2 */
-    DESK_IMAGE_LENGTH = 12,    /* the image's length is no multiple of 10, or over 65,530 */
-    DESK_JOURNAL_ROOM = 13,    /* the journal has no room for the entries needed; told: how many */
-    DESK_RUN = 14              /* the run's start is above its end, or its end above the number of records */
+    DESK_DONE = 0,            /* done */
+    DESK_DATA_BITS = 1,       /* k is 0 or over 64 */
+    DESK_CHECK_BITS = 2,      /* r below 3 or over 16 */
+    DESK_WIDE_COLUMN = 3,     /* a column is 2^r or more; told: first bad place */
+    DESK_EVEN_COLUMN = 4,     /* a column has an even count of ones, 0 included; told: place */
+    DESK_SINGLE_ONE = 5,      /* a data column has a single one; told: place */
+    DESK_REPEATED_COLUMN = 6, /* a column equals an earlier data column; told: place */
+    DESK_STRAY_BITS = 7,      /* single word: a data bit at k or above, or a check bit at r or above, is set
+                                 (writing: data only) */
+    DESK_CARD_SIZE = 8,       /* b below 2 or over 8 */
+    DESK_WEAK_CARD = 9,       /* code not card-proof for b; told: card, mask */
+    DESK_LIST_ROOM = 10,      /* list longer than its room; told: list's length */
+    DESK_FLIP_LIMIT = 11,     /* flip limit over 2 */
+    DESK_IMAGE_LENGTH = 12,   /* image length no multiple of 10, or over 65,530 */
+    DESK_JOURNAL_ROOM = 13,   /* journal room (its length / 24, down) below the entries needed; told: entries needed */
+    DESK_RUN = 14,            /* run's start above its end, or its end above the number of records */
 };
 
 /* The field `verdict` of a reading, the third byte of a journal entry, and the order of a tally. */
@@ -67,7 +88,7 @@ typedef struct DeskCode {
     size_t r;
 } DeskCode;
 
-/* The answer of desk_check_bits: the check bits wanted. */
+/* The answer of desk_check_bits: the check bits wanted. Its one refusal tells nothing. */
 typedef struct DeskCheckBits {
     size_t number;
     size_t bits;
@@ -134,6 +155,9 @@ typedef struct DeskPassAnswer {
     size_t told;
     DeskTally tally;
 } DeskPassAnswer;
+
+/* The version of the archive: DESK_VERSION of the header that goes with it. */
+size_t desk_version(void);
 
 /* The smallest number of check bits for which a code of k data bits exists; refuses with 1. */
 DeskCheckBits desk_check_bits(size_t k);

@@ -1,100 +1,116 @@
--- The card check of a code: each answer exactly when its row of the table says so, and no earlier one. Assumes nothing.
-use mathlib.Core.Path.{_≡_, refl, sym, ap, _∙_, subst}
-use mathlib.Core.Bool.{Bool, true, false, cond, _||_, true≢false, or-true}
+-- The card check of an opened code: each answer exactly when its row of the table says so, and no earlier one. Assumes nothing.
+use mathlib.Core.Path.{_≡_, refl, sym, ap, _∙_}
+use mathlib.Core.Bool.{or-true}
 use mathlib.Core.Logic.{_↔_, _⊎_, inl, inr, ⊎-elim}
 use mathlib.Core.List.{List}
 use Prim.Native.Nat.{ℕ, _≤_, _<_}
-use borrow.Author.Tests.{lt-ltb, le-ltb, ltb-true, ltb-false}
+use native.Mathlib.Omega.{arith}
+use borrow.Author.Tests.{lt-ltb, le-ltb}
 use lib.Dec.{ltb}
-use Rattle.code.specs.declared.Code.{Code}
-use Rattle.code.specs.declared.Judged.{Judged}
-use Rattle.code.specs.declared.Judged.the-variants.{Accepted}
-use Rattle.code.specs.Judge.{judgeOf, accepted}
-use Rattle.code.specs.Rule.{matrixOf}
-use Rattle.code.proofs.Answers.{passes}
+use Rattle.parity.proofs.Ones.{below-or-not}
+use Rattle.code.specs.declared.Opened.{Opened}
+use Rattle.code.specs.declared.Refusal.{Refusal}
+use Rattle.code.specs.declared.Standing.the-variants as standing
+use Rattle.code.specs.Opened.{columnsOf}
+use Rattle.cards.specs.declared.CardCheck.{CardCheck}
 use Rattle.cards.specs.declared.Found.{Found}
 use Rattle.cards.specs.declared.Found.the-variants.{Nothing, At}
-use Rattle.cards.specs.declared.Carded.{Carded}
-use Rattle.cards.specs.declared.Carded.the-variants.{Refused, BadSize, Weak, Proof}
 use Rattle.cards.specs.Cards.{weakCardIn}
 use Rattle.cards.specs.Rule.{CardProof, FirstWeak}
-use Rattle.cards.specs.Checking.{answerOf, cardedIn, cardedOf, CardSize, Says}
+use Rattle.cards.specs.Checking.{CardSize, cardedBy, cardedIn, cardedAs, cardedOf}
 use Rattle.cards.proofs.Parts.{proof-exactly, weak-exactly-all}
+
+-- a number alone, and 9 with the card and the mask that it tells
+abbrev pub bare : ℕ → CardCheck
+bare number = record { number = number; told = 0; card = 0; mask = 0 }
+
+abbrev pub weak : ℕ → ℕ → CardCheck
+weak card mask = record { number = 9; told = 0; card = card; mask = mask }
+
+pub sized-or-out : (b : ℕ) → CardSize b ⊎ ((b < 2) ⊎ (8 < b))
+sized-or-out b =
+    ⊎-elim
+    (λ (l : b < 2). inr (inl l))
+    (λ (l : 2 ≤ b). ⊎-elim (λ (h : 8 < b). inr (inr h)) (λ (h : b ≤ 8). inl (record { least = l; top = h })) (below-or-not 8 b))
+    (below-or-not b 2)
 
 -- ---- the n columns
 
 module _ (cs : List ℕ) (b : ℕ) where
-  pub size-small : b < 2 → cardedIn cs b ≡ BadSize
+  pub size-out : (b < 2) ⊎ (8 < b) → cardedIn cs b ≡ bare 8
   unfolding cardedIn
-  size-small h = simp (lt-ltb b 2 h)
+  size-out = ⊎-elim (λ h. simp (lt-ltb b 2 h)) (λ h. simp (lt-ltb 8 b h, or-true (ltb b 2)))
 
-  pub size-large : 8 < b → cardedIn cs b ≡ BadSize
+  pub size-fits : 2 ≤ b → b ≤ 8 → (f : Found) → f ≡ weakCardIn cs cs b 0 → cardedIn cs b ≡ cardedBy f
   unfolding cardedIn
-  size-large h = simp (lt-ltb 8 b h, or-true (ltb b 2))
+  size-fits h l f e = simp (le-ltb b 2 h, le-ltb 8 b l) (ap cardedBy (sym e))
 
-  pub size-fits : 2 ≤ b → b ≤ 8 → (f : Found) → f ≡ weakCardIn cs cs b 0 → cardedIn cs b ≡ answerOf f
-  unfolding cardedIn
-  size-fits h l f e = simp (le-ltb b 2 h, le-ltb 8 b l) (ap answerOf (sym e))
+-- two finds with the same answer are one
+by-once : (f g : Found) → cardedBy f ≡ cardedBy g → f ≡ g
+by-once Nothing Nothing e = refl
+by-once Nothing (At t mask) e = let z : _≡_ {A = ℕ} 0 9 = ap (λ a. a .number) e in absurd (omega arith)
+by-once (At t mask) Nothing e = let z : _≡_ {A = ℕ} 9 0 = ap (λ a. a .number) e in absurd (omega arith)
+by-once (At t mask) (At u m) e = λ i. At (e i .card) (e i .mask)
 
-  -- what an answer says of them
-  abbrev SaysOfColumns : Carded → Type 0
-  SaysOfColumns (Refused v) = ⊥
-  SaysOfColumns BadSize = (b < 2) ⊎ (8 < b)
-  SaysOfColumns (Weak card mask) = CardSize b × FirstWeak b cs cs card mask
-  SaysOfColumns Proof = CardSize b × CardProof b cs cs
+-- ---- how the code stands decides first
 
-  columns-say : SaysOfColumns (cardedIn cs b)
-  unfolding cardedIn
-  columns-say = go (ltb b 2) (ltb 8 b) (weakCardIn cs cs b 0) refl refl refl
-    where
-      go : (s l : Bool) (f : Found) → ltb b 2 ≡ s → ltb 8 b ≡ l → weakCardIn cs cs b 0 ≡ f
-          → SaysOfColumns (cond (s || l) BadSize (answerOf f))
-      go true l f hs hl e = inl (ltb-true b 2 hs)
-      go false true f hs hl e = inr (ltb-true 8 b hl)
-      go false false Nothing hs hl e = (record { least = ltb-false b 2 hs; top = ltb-false 8 b hl }, proof-exactly cs cs b 0 .0 e)
-      go false false (At card mask) hs hl e =
-          (record { least = ltb-false b 2 hs; top = ltb-false 8 b hl }, weak-exactly-all cs cs b card mask .0 e)
+module _ (o : Opened) (b : ℕ) where
+  pub carded-refused : (f : Refusal) → o .standing ≡ standing.Refused f
+      → cardedOf o b ≡ record { number = f .number; told = f .told; card = 0; mask = 0 }
+  carded-refused f e = ap (λ s. cardedAs s o b) e
 
-  says-columns : (v : Carded) → SaysOfColumns v → cardedIn cs b ≡ v
-  says-columns (Refused v) s = absurd s
-  says-columns BadSize s = ⊎-elim size-small size-large s
-  says-columns (Weak card mask) s =
-      size-fits (s .0 .least) (s .0 .top) (At card mask) (sym (weak-exactly-all cs cs b card mask .1 (s .1)))
-  says-columns Proof s = size-fits (s .0 .least) (s .0 .top) Nothing (sym (proof-exactly cs cs b 0 .1 (s .1)))
+  module _ (e : o .standing ≡ standing.Accepted) where
+    abbrev cs : List ℕ
+    cs = columnsOf o
 
--- ---- a code first
+    carded-columns : cardedOf o b ≡ cardedIn cs b
+    carded-columns = ap (λ s. cardedAs s o b) e
 
-module _ (code : Code) (b : ℕ) where
-  pub check-refused : (v : Judged) → v ≡ judgeOf code → accepted v ≡ false → cardedOf code b ≡ Refused v
-  unfolding cardedOf
-  check-refused v e h = rw (← e, h)
+    pub carded-size : (b < 2) ⊎ (8 < b) → cardedOf o b ≡ bare 8
+    carded-size h = carded-columns ∙ size-out cs b h
 
-  pub check-accepted : judgeOf code ≡ Accepted → cardedOf code b ≡ cardedIn (matrixOf code) b
-  unfolding cardedOf
-  check-accepted e = rw e
+    module _ (size : CardSize b) where
+      -- what the search finds, and the answer to it
+      carded-found : (f : Found) → weakCardIn cs cs b 0 ≡ f → cardedOf o b ≡ cardedBy f
+      carded-found f h = carded-columns ∙ size-fits cs b (size .least) (size .top) f (sym h)
 
-  within : judgeOf code ≡ Accepted → (v : Carded) → SaysOfColumns (matrixOf code) b v → Says code b v
-  within e (Refused v) s = absurd s
-  within e BadSize s = (e, s)
-  within e (Weak card mask) s = (e, s .0, s .1)
-  within e Proof s = (e, s .0, s .1)
+      found-carded : (f : Found) → cardedOf o b ≡ cardedBy f → weakCardIn cs cs b 0 ≡ f
+      found-carded f h = by-once (weakCardIn cs cs b 0) f (sym (carded-found (weakCardIn cs cs b 0) refl) ∙ h)
 
-  check-says : Says code b (cardedOf code b)
-  check-says =
-      ⊎-elim
-      (λ (e : judgeOf code ≡ Accepted).
-      rw (check-accepted e) (within e (cardedIn (matrixOf code) b) (columns-say (matrixOf code) b)))
-      (λ (h : accepted (judgeOf code) ≡ false).
-      rw (check-refused (judgeOf code) refl h) (refl, λ e. true≢false (sym (ap accepted e) ∙ h)))
-      (passes (judgeOf code))
+      -- DONE exactly where the code is card-proof for b
+      pub proof-told : (cardedOf o b ≡ bare 0) ↔ CardProof b (columnsOf o) (columnsOf o)
+      proof-told = (
+        λ h. proof-exactly cs cs b 0 .0 (found-carded Nothing h),
+        λ p. carded-found Nothing (proof-exactly cs cs b 0 .1 p),
+      )
 
-  says-check : (v : Carded) → Says code b v → cardedOf code b ≡ v
-  says-check (Refused v) s =
-      check-refused v (sym (s .0)) (⊎-elim (λ (e : v ≡ Accepted). absurd (s .1 e)) (λ (h : accepted v ≡ false). h) (passes v))
-  says-check BadSize s = check-accepted (s .0) ∙ says-columns (matrixOf code) b BadSize (s .1)
-  says-check (Weak card mask) s = check-accepted (s .0) ∙ says-columns (matrixOf code) b (Weak card mask) (s .1, s .2)
-  says-check Proof s = check-accepted (s .0) ∙ says-columns (matrixOf code) b Proof (s .1, s .2)
+      -- 9 exactly with the first weak card and its smallest mask
+      pub weak-told : (card mask : ℕ) → (cardedOf o b ≡ weak card mask) ↔ FirstWeak b (columnsOf o) (columnsOf o) card mask
+      weak-told card mask = (
+        λ h. weak-exactly-all cs cs b card mask .0 (found-carded (At card mask) h),
+        λ w. carded-found (At card mask) (weak-exactly-all cs cs b card mask .1 w),
+      )
 
-  -- THE TABLE, rows 8 and 9: each answer exactly when its row says so and no earlier one
-  pub card-exactly : (v : Carded) → (cardedOf code b ≡ v) ↔ Says code b v
-  card-exactly v = (λ e. subst (Says code b) e check-says, says-check v)
+      -- it is one of the two
+      pub proof-or-weak : (cardedOf o b ≡ bare 0) ⊎ ((card : ℕ) × (mask : ℕ) × (cardedOf o b ≡ weak card mask))
+      proof-or-weak = go (weakCardIn cs cs b 0) refl
+        where
+          go : (f : Found) → weakCardIn cs cs b 0 ≡ f
+              → (cardedOf o b ≡ bare 0) ⊎ ((card : ℕ) × (mask : ℕ) × (cardedOf o b ≡ weak card mask))
+          go Nothing h = inl (carded-found Nothing h)
+          go (At card mask) h = inr (card, mask, carded-found (At card mask) h)
+
+    -- 8 exactly where b is below 2 or over 8
+    pub eight-exactly : (cardedOf o b .number ≡ 8) ↔ ((b < 2) ⊎ (8 < b))
+    eight-exactly = (
+      λ h.
+          ⊎-elim
+          (λ size.
+          ⊎-elim
+          (λ p. let z : _≡_ {A = ℕ} 0 8 = sym (ap (λ a. a .number) p) ∙ h in absurd (omega arith))
+          (λ w. let z : _≡_ {A = ℕ} 9 8 = sym (ap (λ a. a .number) (w .2)) ∙ h in absurd (omega arith))
+          (proof-or-weak size))
+          (λ out. out)
+          (sized-or-out b),
+      λ out. ap (λ a. a .number) (carded-size out),
+    )

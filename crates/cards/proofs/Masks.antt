@@ -82,14 +82,18 @@ module _ (cs card : List ℕ) (number : ℕ) where
       go true p q = (λ h. let z : _≡_ {A = ℕ} 0 1 = cc in absurd (omega arith), λ k. absurd (k (p refl)))
       go false p q = (λ h k. let e = q k in let z : _≡_ {A = ℕ} 0 1 = cc in omega arith, λ k. refl)
 
-  try-at : (mask n m : ℕ) → mask < 2 ^ length card → (tryMask cs card number mask ≡ At n m) ↔ ((n ≡ number) × (m ≡ mask) × Breaks cs card mask)
+  try-at : (mask n m : ℕ) → mask < 2 ^ length card
+      → (tryMask cs card number mask ≡ At n m) ↔ ((n ≡ number) × (m ≡ mask) × Breaks cs card mask)
   unfolding tryMask
   try-at mask n m l = go (weakMask cs card mask) (weak-breaks cs card mask l) (breaks-weak cs card mask)
     where
       go : (w : Bool) → (w ≡ true → Breaks cs card mask) → (Breaks cs card mask → w ≡ true)
           → (cond w (At number mask) Nothing ≡ At n m) ↔ ((n ≡ number) × (m ≡ mask) × Breaks cs card mask)
       go true p q = (λ h. (cc, cc, p refl), λ k. let e = k .0 in let f = k .1 in cc)
-      go false p q = (λ h. let z : _≡_ {A = ℕ} 0 1 = cc in absurd (omega arith), λ k. let e = q (k .2) in let z : _≡_ {A = ℕ} 0 1 = cc in absurd (omega arith))
+      go false p q = (
+        λ h. let z : _≡_ {A = ℕ} 0 1 = cc in absurd (omega arith),
+        λ k. let e = q (k .2) in let z : _≡_ {A = ℕ} 0 1 = cc in absurd (omega arith),
+      )
 
   -- ---- all masks of a card
 

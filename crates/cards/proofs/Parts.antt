@@ -1,9 +1,10 @@
--- The cards of a part: the check finds nothing exactly where the part is card-proof, and else the first weak card and its smallest mask. Assumes nothing.
+-- The cards of a part: the check finds nothing exactly where the part is card-proof, and else the first weak card and its smallest mask.
+-- Assumes nothing.
 use mathlib.Core.Path.{_≡_, refl, sym, ap, _∙_}
 use mathlib.Core.Logic.{_↔_, ⊎-elim}
 use mathlib.Core.List.{List, []}
 use Prim.Native.Nat.{ℕ, zero, suc, _+_, _-_, _*_, _≤_, _<_, zero-le, suc-le-suc}
-use native.Mathlib.Nat.{div-lt-iff-lt-mul, suc-mul}
+use native.Mathlib.Nat.{le-div-iff-mul-le, div-lt-iff-lt-mul, suc-mul}
 use native.Mathlib.Omega.{arith}
 use lib.Arith.{lt-one}
 use lib.Count.{ones}
@@ -19,14 +20,10 @@ use Rattle.cards.proofs.Masks.{kept-flagged, flagged-kept, masks-nothin
 -- ---- how many cards there are: card t begins inside the part exactly where t is below their number
 
 pub card-inside : (b places t : ℕ) → 1 ≤ b → t < cardsIn b places → t * b < places
-card-inside b places t h l =
-    let out : ¬ (places + (b - 1) < suc t * b) = λ k. let m = div-lt-iff-lt-mul {k = b} h .1 k in omega arith in
-    omega (arith, suc-mul t b)
+card-inside b places t h l = let k = le-div-iff-mul-le h .0 l in omega (arith, suc-mul t b)
 
 card-outside : (b places t : ℕ) → 1 ≤ b → cardsIn b places ≤ t → places ≤ t * b
-card-outside b places t h l =
-    let k = div-lt-iff-lt-mul {k = b} {x = places + (b - 1)} {y = suc t} h .0 (suc-le-suc l) in
-    omega (arith, suc-mul t b)
+card-outside b places t h l = let k = div-lt-iff-lt-mul h .0 (suc-le-suc l) in omega (arith, suc-mul t b)
 
 pub card-past : (b : ℕ) (part : List ℕ) (t : ℕ) → length part ≤ t * b → cardAt b part t ≡ []
 card-past b part t h = ap (take b) (drop-of-length-le part h) ∙ take-nil b
@@ -36,7 +33,8 @@ card-none zero part t h = refl
 card-none (suc b) part t h = card-past (suc b) part t (card-outside (suc b) (length part) t (suc-le-suc zero-le) h)
 
 -- the last card may be short: it is all that is left of the part
-pub card-short : (b : ℕ) (part : List ℕ) (t n : ℕ) → length part - t * b ≤ n → length part - t * b ≤ b → take n (drop (t * b) part) ≡ cardAt b part t
+pub card-short : (b : ℕ) (part : List ℕ) (t n : ℕ) → length part - t * b ≤ n → length part - t * b ≤ b
+    → take n (drop (t * b) part) ≡ cardAt b part t
 card-short b part t n h k =
     let rest = drop (t * b) part in
     take-all n rest (omega (arith, length-drop (t * b) part)) ∙ sym (take-all b rest (omega (arith, length-drop (t * b) part)))
@@ -70,7 +68,8 @@ module _ (cs part : List ℕ) (b first : ℕ) where
   )
 
   -- a card and a mask are found exactly where the card is the first weak one of the part, counted from `first`, and the mask its smallest
-  pub weak-exactly : (card mask : ℕ) → (weakCardIn cs part b first ≡ At card mask) ↔ ((t : ℕ) × (card ≡ first + t) × FirstWeak b cs part t mask)
+  pub weak-exactly : (card mask : ℕ)
+      → (weakCardIn cs part b first ≡ At card mask) ↔ ((t : ℕ) × (card ≡ first + t) × FirstWeak b cs part t mask)
   unfolding weakCardIn tryCard
   weak-exactly card mask =
       let some = something-found (tryCard cs part b first) (cardsIn b (length part)) card mask in (

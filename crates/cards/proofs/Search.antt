@@ -7,12 +7,12 @@ use native.Mathlib.Omega.{arith}
 use Rattle.parity.proofs.Ones.{below-or-not}
 use Rattle.cards.specs.declared.Found.{Found}
 use Rattle.cards.specs.declared.Found.the-variants.{Nothing, At}
-use Rattle.cards.specs.Cards.{orElse, firstFrom}
+use Rattle.cards.specs.Cards.{unlessFound, firstFrom}
 
 -- ---- for a loop from 0 up to n, given what the numbers from m on find: x is found at m, nothing is found at m, m is past the last
 
 module _ (f : ℕ → Found) (n m : ℕ) (whole : Found) (left : firstFrom f (n - m) m ≡ whole) where
-  step : m < n → orElse (f m) (firstFrom f (n - (m + 1)) (m + 1)) ≡ whole
+  step : m < n → unlessFound (f m) (firstFrom f (n - (m + 1)) (m + 1)) ≡ whole
   unfolding firstFrom
   step h = let e : n - m ≡ suc (n - (m + 1)) = omega arith in rw (e, ← add-one m) at left
 
@@ -28,7 +28,7 @@ module _ (f : ℕ → Found) (n m : ℕ) (whole : Found) (left : firstFrom f (n 
 
 -- ---- nothing is found exactly where f finds nothing at any of the numbers
 
-neither : (a b : Found) → orElse a b ≡ Nothing → (a ≡ Nothing) × (b ≡ Nothing)
+neither : (a b : Found) → unlessFound a b ≡ Nothing → (a ≡ Nothing) × (b ≡ Nothing)
 neither Nothing b h = (refl, h)
 neither (At t mask) b h = let z : _≡_ {A = ℕ} 0 1 = cc in absurd (omega arith)
 
@@ -65,7 +65,7 @@ unfolding firstFrom
 found-from f zero m t mask h = let z : _≡_ {A = ℕ} 0 1 = cc in absurd (omega arith)
 found-from f (suc n) m t mask h = go (f m) refl h (found-from f n (suc m) t mask)
   where
-    go : (a : Found) → f m ≡ a → orElse a (firstFrom f n (suc m)) ≡ At t mask
+    go : (a : Found) → f m ≡ a → unlessFound a (firstFrom f n (suc m)) ≡ At t mask
         → (firstFrom f n (suc m) ≡ At t mask → First f (suc m) n (At t mask)) → First f m (suc n) (At t mask)
     go Nothing e k ih =
         let r = ih k in
@@ -85,7 +85,13 @@ from-found f zero m t mask r = absurd (omega arith)
 from-found f (suc n) m t mask r =
     ⊎-elim
     (λ (p : m < r .i). rw (r .before m (omega arith) p)
-    (from-found f n (suc m) t mask (record { i = r .i; low = p; high = omega arith; here = r .here; before = λ j l u. r .before j (omega arith) u })))
+    (from-found f n (suc m) t mask (record {
+      i = r .i;
+      low = p;
+      high = omega arith;
+      here = r .here;
+      before = λ j l u. r .before j (omega arith) u;
+    })))
     (λ (q : r .i ≤ m). let e : r .i ≡ m = omega arith in rw (rw e at (r .here)))
     (below-or-not m (r .i))
 

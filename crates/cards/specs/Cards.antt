@@ -1,4 +1,5 @@
--- The card check: document 01, "Cards". A part is a stretch of a word's n columns, cut into cards of b places from its start. Assumes nothing.
+-- The card check: document 01, "Cards". A part is a stretch of a word's n columns, cut into cards of b places from its start.
+-- Assumes nothing.
 use mathlib.Core.Bool.{Bool, cond, _||_, _&&_}
 use mathlib.Core.List.{List}
 use Prim.Native.Nat.{ℕ, zero, suc, _+_, _-_, _*_, _/_, _^_}
@@ -26,14 +27,14 @@ unfoldable pub weakMask : List ℕ → List ℕ → ℕ → Bool
 weakMask cs card mask = leb 2 (ones mask) && (eqb (mix card mask) 0 || isColumn cs (mix card mask))
 
 -- the first of two answers that finds something
-abbrev pub orElse : Found → Found → Found
-orElse Nothing b = b
-orElse (At t mask) b = At t mask
+abbrev pub unlessFound : Found → Found → Found
+unlessFound Nothing b = b
+unlessFound (At t mask) b = At t mask
 
 -- the first find of f at the n numbers from m on
 unfoldable pub firstFrom : (ℕ → Found) → ℕ → ℕ → Found
 firstFrom f zero m = Nothing
-firstFrom f (suc n) m = orElse (f m) (firstFrom f n (suc m))
+firstFrom f (suc n) m = unlessFound (f m) (firstFrom f n (suc m))
 
 -- one mask of the card that has this number
 unfoldable pub tryMask : List ℕ → List ℕ → ℕ → ℕ → Found

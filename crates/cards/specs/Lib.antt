@@ -1,4 +1,3 @@
 pub mod Cards
 pub mod Rule
 pub mod Checking
-pub mod Flagging

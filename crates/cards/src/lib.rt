@@ -2,10 +2,12 @@
 ghost use mathlib.Core.Path.{_≡_};
 ghost use Prim.Native.Nat.{_+_, _*_, _≤_, _<_};
 ghost use lib.ListN.{length};
+ghost use Rattle.code.specs.Opened.{Laid};
 ghost use Rattle.cards.specs.Cards.{cardsIn, weakMask, weakMaskIn, tryCard, weakCardIn};
-ghost use Rattle.cards.specs.Checking.{cardedIn, cardedOf, numberOf, toldOf, cardOf, maskOf};
-use code::Code;
-use code::Judged;
+ghost use Rattle.cards.specs.Checking.{refusedCards, cardedIn, cardedOf};
+use code::Opened;
+use code::Refusal;
+use code::Standing;
 
 // What a search finds: a card's number, and a mask of it that breaks the rule.
 pub enum Found {
@@ -81,89 +83,55 @@ fn weak_card_in(columns: &[u16], part: &[u16], b: usize, first: usize) -> Found
     Found::Nothing
 }
 
-// The answer to the card question; a weak code with the first weak card and its smallest mask.
-pub enum Carded {
-    Refused(Judged),
-    BadSize,
-    Weak(usize, usize),
-    Proof,
+// The answer to the card question: the first weak card and its smallest mask, where the number is 9.
+#[repr(C)]
+pub struct CardCheck {
+    pub number: usize,
+    pub told: usize,
+    pub card: usize,
+    pub mask: usize,
+}
+
+fn refused_cards(refusal: Refusal) -> CardCheck
+    ensures { λ a. ⌜ a ≡ refusedCards refusal ⌝ }
+{
+    CardCheck {
+        number: refusal.number,
+        told: refusal.told,
+        card: 0,
+        mask: 0,
+    }
 }
 
 // The n columns of a code, whose cards of b places run straight on over all of them.
-fn check_in(columns: &[u16], b: usize) -> Carded
+fn check_in(columns: &[u16], b: usize) -> CardCheck
     requires { ⌜ length (now columns) ≤ 1024 ⌝ }
     ensures { λ a. ⌜ a ≡ cardedIn (now (columns .entry)) b ⌝ }
 {
-    if b < 2 {
-        return Carded::BadSize;
-    }
-    if b > 8 {
-        return Carded::BadSize;
-    }
-    match weak_card_in(columns, columns, b, 0) {
-        Found::Nothing => Carded::Proof,
-        Found::At(card, mask) => Carded::Weak(card, mask),
+    match b {
+        2..=8 => match weak_card_in(columns, columns, b, 0) {
+            Found::Nothing => refused_cards(Refusal { number: 0, told: 0 }),
+            Found::At(card, mask) => CardCheck {
+                number: 9,
+                told: 0,
+                card,
+                mask,
+            },
+        },
+        _ => refused_cards(Refusal { number: 8, told: 0 }),
     }
 }
 
-// Whether a code is card-proof for cards of b places.
-pub fn card_check(code: Code, b: usize) -> Carded
-    ensures { λ a. ⌜ a ≡ cardedOf code b ⌝ }
+// Whether an opened code is card-proof for cards of b places.
+pub fn card_check(opened: Opened, b: usize) -> CardCheck
+    requires { ⌜ Laid opened ⌝ }
+    ensures { λ a. ⌜ a ≡ cardedOf opened b ⌝ }
 {
-    let opened = code::open_code(code);
-    let verdict = opened.verdict;
-    let Judged::Accepted = verdict else {
-        return Carded::Refused(verdict);
-    };
-    let n = code.k + code.r;
+    let standing = opened.standing;
+    if let Standing::Refused(refusal) = standing {
+        return refused_cards(refusal);
+    }
+    let n = opened.n;
     let columns = opened.columns;
     check_in(&columns[..n], b)
-}
-
-// Document 01's number of an answer.
-pub fn number_of(a: Carded) -> usize
-    ensures { λ n. ⌜ n ≡ numberOf a ⌝ }
-{
-    match a {
-        Carded::Refused(v) => code::number_of(v),
-        Carded::BadSize => 8,
-        Carded::Weak(_, _) => 9,
-        Carded::Proof => 0,
-    }
-}
-
-// The told place: the bad column's, where the code is refused.
-pub fn told_of(a: Carded) -> usize
-    ensures { λ p. ⌜ p ≡ toldOf a ⌝ }
-{
-    match a {
-        Carded::Refused(v) => code::told_of(v),
-        Carded::BadSize => 0,
-        Carded::Weak(_, _) => 0,
-        Carded::Proof => 0,
-    }
-}
-
-// The told card.
-pub fn card_of(a: Carded) -> usize
-    ensures { λ t. ⌜ t ≡ cardOf a ⌝ }
-{
-    match a {
-        Carded::Refused(_) => 0,
-        Carded::BadSize => 0,
-        Carded::Weak(card, _) => card,
-        Carded::Proof => 0,
-    }
-}
-
-// The told mask.
-pub fn mask_of(a: Carded) -> usize
-    ensures { λ m. ⌜ m ≡ maskOf a ⌝ }
-{
-    match a {
-        Carded::Refused(_) => 0,
-        Carded::BadSize => 0,
-        Carded::Weak(_, mask) => mask,
-        Carded::Proof => 0,
-    }
 }

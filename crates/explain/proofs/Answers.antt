@@ -1,112 +1,90 @@
--- Each answer exactly when its row of the table says so and no earlier one; and what it leaves of the lent list. Assumes nothing.
-use mathlib.Core.Path.{_≡_, refl, sym, ap, subst, _∙_}
-use mathlib.Core.Logic.{inl, inr, ⊎-elim, _↔_}
-use mathlib.Core.Bool.{Bool, true, false, cond, _||_, or-true, true≢false}
+-- The answers, row by row, for any opened code: the number, what is told, the list's length, and the lent list afterwards. Assumes nothing.
+use mathlib.Core.Path.{_≡_, sym, ap, ap₂, _∙_}
+use mathlib.Core.Logic.{_⊎_}
 use mathlib.Core.List.{List}
-use Prim.Native.Nat.{ℕ, _-_, _^_, _≤_, _<_}
+use Prim.Native.Nat.{ℕ, _-_, _/_, _^_, _≤_, _<_}
 use native.Mathlib.Omega.{arith}
-use borrow.Author.Tests.{ltb-true, ltb-false, leb-true, leb-false, le-leb, lt-leb}
-use lib.Dec.{ltb}
+use borrow.Author.Tests.{lt-ltb, le-ltb}
 use lib.ListN.{length}
-use Rattle.code.specs.declared.Code.{Code}
-use Rattle.code.specs.declared.Judged.the-variants.{Accepted}
-use Rattle.code.specs.Judge.{judgeOf, accepted}
-use Rattle.code.proofs.Answers.{passes}
-use Rattle.word.specs.Word.{strays, strayIn}
-use Rattle.word.specs.Verdicts.{placesOf}
+use lib.Seq.{length-take-le}
+use Rattle.code.specs.declared.Opened.{Opened}
+use Rattle.code.specs.declared.Refusal.{Refusal}
+use Rattle.code.specs.declared.Standing.the-variants as standing
+use Rattle.code.specs.Opened.{columnsOf, Laid}
+use Rattle.word.specs.declared.Word.{Word}
+use Rattle.word.specs.Word.{joined, asNumber}
 use Rattle.record.specs.Run.{over}
-use Rattle.explain.specs.declared.Explained.{Explained}
-use Rattle.explain.specs.declared.Explained.the-variants.{Refused, Stray, OverLimit, NoRoom, Listed}
-use Rattle.explain.specs.Sets.{bytesFor, written}
-use Rattle.explain.specs.Explanations.{explanationsOf, roomIn, explainedOf, leftBy, listAfter, Strayed, Heard, Says}
-use Rattle.explain.proofs.Cases.{written-room, written-none, says-refused, says-stray, says-limit, says-no-room, says-listed}
+use Rattle.listing.specs.Sets.{bytesFor, written}
+use Rattle.listing.proofs.Cases.{written-room, written-none}
+use Rattle.explain.specs.declared.Listing.{Listing}
+use Rattle.explain.specs.Explanations.{Explained, explanations, listedIn, explainIn, explainAs, explainOf}
+use Rattle.mending.proofs.Strays.{stray-of, no-stray}
 
--- ---- row 7, and its test
+-- an answer, and the lent list with it
+abbrev pub said : ℕ → ℕ → ℕ → List ℕ → Explained
+said number told long list = record { answer = record { number = number; told = told; length = long }; list = list }
 
-module _ (code : Code) (low high : ℕ) where
-  stray-test : strayIn (placesOf code) (code .k) low high ≡ (strays (code .k) low || strays (code .r) high)
-  stray-test = let e : placesOf code - code .k ≡ code .r = omega arith in rw e
+-- the explanations of a word under an opened code
+abbrev pub setsOf : Opened → Word → ℕ → List (List ℕ)
+setsOf o word limit = explanations (o .rows) (columnsOf o) (o .k) (asNumber (o .k) word) limit
 
-  pub strayed : Strayed code low high → strayIn (placesOf code) (code .k) low high ≡ true
-  strayed =
-      ⊎-elim
-      (λ h. rw (stray-test, le-leb (2 ^ code .k) low h))
-      (λ h. rw (stray-test, le-leb (2 ^ code .r) high h) (or-true (strays (code .k) low)))
+-- the n columns of an opened code are there
+pub length-columns : (o : Opened) → Laid o → length (o .columns) ≡ 144 → length (columnsOf o) ≡ o .n
+length-columns o laid h = length-take-le (o .n) (o .columns) (omega (arith, laid .checks, laid .data-most))
 
-  pub unstrayed : Heard code low high → strayIn (placesOf code) (code .k) low high ≡ false
-  unstrayed h = rw (stray-test, lt-leb (2 ^ code .k) low (h .data-fits), lt-leb (2 ^ code .r) high (h .check-fits))
+-- ---- the answers
 
-  -- and what the test says
-  pub stray-row : strayIn (placesOf code) (code .k) low high ≡ true → Strayed code low high
-  stray-row e = go (strays (code .k) low) refl (sym stray-test ∙ e)
-    where
-      go : (a : Bool) → strays (code .k) low ≡ a → (a || strays (code .r) high) ≡ true → Strayed code low high
-      go true ha h = inl (leb-true (2 ^ code .k) low ha)
-      go false ha h = inr (leb-true (2 ^ code .r) high h)
+module _ (o : Opened) (word : Word) (limit : ℕ) (list : List ℕ) where
+  pub answer-refused : (f : Refusal) → o .standing ≡ standing.Refused f → explainOf o word limit list ≡ said (f .number) (f .told) 0 list
+  answer-refused f e = ap (λ s. explainAs s o word limit list) e
 
-  pub heard : judgeOf code ≡ Accepted → strayIn (placesOf code) (code .k) low high ≡ false → Heard code low high
-  heard v e = go (strays (code .k) low) (strays (code .r) high) refl refl (sym stray-test ∙ e)
-    where
-      go : (a b : Bool) → strays (code .k) low ≡ a → strays (code .r) high ≡ b → (a || b) ≡ false → Heard code low high
-      go true b ha hb h = absurd (true≢false h)
-      go false true ha hb h = absurd (true≢false h)
-      go false false ha hb h = record { verdict = v; data-fits = leb-false (2 ^ code .k) low ha; check-fits = leb-false (2 ^ code .r) high hb }
+  module _ (taken : o .standing ≡ standing.Accepted) (long : length (columnsOf o) ≡ o .n) where
+    accepted : explainOf o word limit list ≡ explainIn (o .rows) (columnsOf o) (o .k) word limit list
+    accepted = ap (λ s. explainAs s o word limit list) taken
 
--- ---- the table
+    -- a data bit at k or above, or a check bit at n - k or above
+    pub answer-stray : (2 ^ o .k ≤ joined (word .low) (word .high)) ⊎ (2 ^ (o .n - o .k) ≤ word .check)
+        → explainOf o word limit list ≡ said 7 0 0 list
+    unfolding explainIn
+    answer-stray h = accepted ∙ rw (long, stray-of (o .n) (o .k) word h)
 
-module _ (code : Code) (low high limit size : ℕ) where
-  -- every answer says what its row of the table says
-  pub explained-says : Says code low high limit size (explainedOf code low high limit size)
-  unfolding explainedOf
-  explained-says = ⊎-elim taken refused (passes (judgeOf code))
-    where
-      refused : accepted (judgeOf code) ≡ false → Says code low high limit size (explainedOf code low high limit size)
-      refused h = rw h (refl, λ e. true≢false (sym (ap accepted e) ∙ h))
+    module _ (low-fits : joined (word .low) (word .high) < 2 ^ o .k) (high-fits : word .check < 2 ^ (o .n - o .k)) where
+      pub answer-limit : 2 < limit → explainOf o word limit list ≡ said 11 0 0 list
+      unfolding explainIn
+      answer-limit h = accepted ∙ rw (long, no-stray (o .n) (o .k) word low-fits high-fits, lt-ltb 2 limit h)
 
-      taken : judgeOf code ≡ Accepted → Says code low high limit size (explainedOf code low high limit size)
-      taken v = rw v (go (strayIn (placesOf code) (code .k) low high) (ltb 2 limit) (ltb (roomIn size) (length (explanationsOf code low high limit))) refl refl refl)
-        where
-          go : (s l m : Bool) → strayIn (placesOf code) (code .k) low high ≡ s → ltb 2 limit ≡ l → ltb (roomIn size) (length (explanationsOf code low high limit)) ≡ m
-              → Says code low high limit size
-              (cond s Stray (cond l OverLimit (cond m (NoRoom (length (explanationsOf code low high limit))) (Listed (length (explanationsOf code low high limit))))))
-          go true l m hs hl hm = (v, stray-row code low high hs)
-          go false true m hs hl hm = (heard code low high v hs, ltb-true 2 limit hl)
-          go false false true hs hl hm =
-              (heard code low high v hs, ltb-false 2 limit hl, refl, ltb-true (roomIn size) (length (explanationsOf code low high limit)) hm)
-          go false false false hs hl hm =
-              (heard code low high v hs, ltb-false 2 limit hl, refl, ltb-false (roomIn size) (length (explanationsOf code low high limit)) hm)
+      module _ (few : limit ≤ 2) where
+        listed : explainOf o word limit list ≡ listedIn (setsOf o word limit) list
+        unfolding explainIn
+        listed = accepted ∙ rw (long, no-stray (o .n) (o .k) word low-fits high-fits, le-ltb 2 limit few)
 
-  -- and where a row says so, that is the answer
-  pub says-explained : (a : Explained) → Says code low high limit size a → explainedOf code low high limit size ≡ a
-  says-explained (Refused v) s =
-      says-refused code low high limit size v (s .0) (⊎-elim (λ (e : v ≡ Accepted). absurd (s .1 e)) (λ h. h) (passes v))
-  says-explained Stray s = says-stray code low high limit size (s .0) (strayed code low high (s .1))
-  says-explained OverLimit s = says-limit code low high limit size (s .0 .verdict) (unstrayed code low high (s .0)) (s .1)
-  says-explained (NoRoom n) s =
-      says-no-room code low high limit size (s .0 .verdict) (unstrayed code low high (s .0)) (s .1) n (s .2) (s .3)
-  says-explained (Listed n) s =
-      says-listed code low high limit size (s .0 .verdict) (unstrayed code low high (s .0)) (s .1) n (s .2) (s .3)
+        pub answer-no-room : length list / 2 < length (setsOf o word limit)
+            → explainOf o word limit list ≡ said 10 (length (setsOf o word limit)) 0 list
+        unfolding listedIn
+        answer-no-room h = listed ∙ rw (lt-ltb (length list / 2) (length (setsOf o word limit)) h)
 
-  -- THE TABLE, rows 7, 11 and 10 after the code's: each answer exactly when its row says so and no earlier one
-  pub answer-exactly : (a : Explained) → (explainedOf code low high limit size ≡ a) ↔ Says code low high limit size a
-  answer-exactly a = (λ e. subst (Says code low high limit size) e explained-says, says-explained a)
+        pub answer-done : length (setsOf o word limit) ≤ length list / 2
+            → explainOf o word limit list ≡ said 0 0 (length (setsOf o word limit)) (over (bytesFor (setsOf o word limit)) list)
+        unfolding listedIn
+        answer-done h = listed ∙ rw (le-ltb (length list / 2) (length (setsOf o word limit)) h)
 
--- an answer that its row says, and the list as that answer leaves it
-pub claims : (code : Code) (low high limit : ℕ) (list after : List ℕ) (a : Explained) → Says code low high limit (length list) a
-    → after ≡ leftBy a (over (bytesFor (explanationsOf code low high limit)) list) list
-    → (a ≡ explainedOf code low high limit (length list)) × (after ≡ listAfter code low high limit list)
-claims code low high limit list after a s f =
-    let e = says-explained code low high limit (length list) a s in
-    (sym e, f ∙ sym (ap (λ x. leftBy x (over (bytesFor (explanationsOf code low high limit)) list) list) e))
+        -- a list l of n entries that was written where there was room for it
+        module _ (l : List (List ℕ)) (n : ℕ) (after : List ℕ) (is : setsOf o word limit ≡ l) (count : n ≡ length l)
+            (put : after ≡ written l list) where
+          size : n ≡ length (setsOf o word limit)
+          size = count ∙ sym (ap length is)
 
--- a list l of n entries that was written where there was room for it
-module _ (code : Code) (low high limit : ℕ) (list after : List ℕ) (h : Heard code low high) (few : limit ≤ 2) (l : List (List ℕ)) (n : ℕ)
-    (is : explanationsOf code low high limit ≡ l) (long : n ≡ length l) (put : after ≡ written l list) where
-  pub claims-no-room : roomIn (length list) < n → (NoRoom n ≡ explainedOf code low high limit (length list)) × (after ≡ listAfter code low high limit list)
-  claims-no-room m =
-      claims code low high limit list after (NoRoom n) (h, few, ap length is ∙ sym long, m) (put ∙ written-none l list n long m)
+          pub put-no-room : length list / 2 < n → explainOf o word limit list ≡ said 10 n 0 after
+          put-no-room h =
+              answer-no-room (rw (← size) h)
+              ∙ ap₂ (λ (m : ℕ) (d : List ℕ). said 10 m 0 d) (sym size) (sym (put ∙ written-none l list n count h))
 
-  pub claims-listed : n ≤ roomIn (length list) → (Listed n ≡ explainedOf code low high limit (length list)) × (after ≡ listAfter code low high limit list)
-  claims-listed m =
-      claims code low high limit list after (Listed n) (h, few, ap length is ∙ sym long, m)
-      (put ∙ written-room l list n long m ∙ ap (λ (x : List (List ℕ)). over (bytesFor x) list) (sym is))
+          pub put-done : n ≤ length list / 2 → explainOf o word limit list ≡ said 0 0 n after
+          put-done h =
+              answer-done (rw (← size) h)
+              ∙ ap₂ (λ (m : ℕ) (d : List ℕ). said 0 0 m d) (sym size)
+              (ap (λ (x : List (List ℕ)). over (bytesFor x) list) is ∙ sym (put ∙ written-room l list n count h))
+
+-- an answer and a list are handed back as they are said
+pub claims : {x y : Explained} (a : Listing) → x ≡ y → a ≡ y .answer → (a ≡ x .answer) × (y .list ≡ x .list)
+claims a e f = (f ∙ sym (ap (λ z. z .answer) e), sym (ap (λ z. z .list) e))

@@ -11,15 +11,15 @@ use lib.Dec.{eqb, ltb}
 use lib.ListN.{length}
 use Rattle.parity.specs.Odd.{Parity}
 use Rattle.parity.proofs.Xor.{eq-of-xor-zero, xor-zero-of-eq}
-use Rattle.columns.specs.Mix.{mix, column, flip, placeIn}
+use Rattle.columns.specs.Mix.{mix, column, flipped, placeIn}
 use Rattle.columns.specs.Rule.{Good, Pair}
 use Rattle.columns.proofs.Linear.{mix-flip}
 use Rattle.columns.proofs.Errors.{column-nonzero}
 use Rattle.columns.proofs.Places.{place-none}
-use Rattle.explain.specs.Sets.{flipAll, chosen, setsUpTo, those}
-use Rattle.explain.specs.BySyndrome.{clears, clearing, placeFrom, partnerOf, pairAt, pairsFrom, pairsBy, bySyndrome}
+use Rattle.listing.specs.Sets.{flipAll, chosen, setsUpTo, those}
+use Rattle.listing.specs.BySyndrome.{clears, clearing, placeFrom, partnerOf, pairAt, pairsFrom, pairsBy, bySyndrome}
 use Rattle.explain.proofs.Sets.{those-append, those-map}
-use Rattle.explain.proofs.Partners.{from-zero, from-here, from-next, from-hit, from-least, partner-pair, zero-no-pair, column-no-pair}
+use Rattle.explain.proofs.Pairs.{from-zero, from-here, from-next, from-hit, from-least, partner-pair, zero-no-pair, column-no-pair}
 
 -- the first place from p on whose column is s, alone, where there is one
 oneFrom : List ℕ → ℕ → ℕ → List (List ℕ)
@@ -56,12 +56,12 @@ pair-at cs s p = go (ltb (partnerOf cs s p) (length cs)) (partnerOf cs s p)
 
 pairs-none : (cs : List ℕ) (s m p : ℕ) → ((p q : ℕ) → Pair cs s p q → ⊥) → pairsFrom cs s m p ≡ []
 unfolding pairsFrom pairAt
-pairs-none cs s zero p none = refl
-pairs-none cs s (suc m) p none = go (ltb (partnerOf cs s p) (length cs)) refl (pairs-none cs s m (suc p) none)
+pairs-none cs s zero p never = refl
+pairs-none cs s (suc m) p never = go (ltb (partnerOf cs s p) (length cs)) refl (pairs-none cs s m (suc p) never)
   where
     go : (b : Bool) → ltb (partnerOf cs s p) (length cs) ≡ b → pairsFrom cs s m (suc p) ≡ []
         → cond b ((p ∷ partnerOf cs s p ∷ []) ∷ []) [] ++ pairsFrom cs s m (suc p) ≡ []
-    go true e ih = absurd (none p (partnerOf cs s p) (partner-pair cs s p (ltb-true (partnerOf cs s p) (length cs) e)))
+    go true e ih = absurd (never p (partnerOf cs s p) (partner-pair cs s p (ltb-true (partnerOf cs s p) (length cs) e)))
     go false e ih = ih
 
 module _ {odd : ℕ → ℕ} {cs : List ℕ} (g : Good odd cs) where
@@ -75,16 +75,18 @@ module _ {odd : ℕ → ℕ} {cs : List ℕ} (g : Good odd cs) where
       inside = omega arith
 
       go : (b : Bool) → clears cs w (p ∷ []) ≡ b → those (clears cs w) (chosen 1 m (suc p)) ≡ oneFrom cs (mix cs w) (suc p)
-          → cond b ((p ∷ []) ∷ those (clears cs w) (chosen 1 m (suc p))) (those (clears cs w) (chosen 1 m (suc p))) ≡ oneFrom cs (mix cs w) p
+          → cond b ((p ∷ []) ∷ those (clears cs w) (chosen 1 m (suc p))) (those (clears cs w) (chosen 1 m (suc p)))
+          ≡ oneFrom cs (mix cs w) p
       go true f ih =
-          let hit : column cs p ≡ mix cs w = sym (eq-of-xor-zero (mix cs w) (column cs p) (sym (mix-flip cs w p inside) ∙ eqb-true (mix cs (flip w p)) 0 f)) in
+          let gone = sym (mix-flip cs w p inside) ∙ eqb-true (mix cs (flipped w p)) 0 f in
+          let hit : column cs p ≡ mix cs w = sym (eq-of-xor-zero (mix cs w) (column cs p) gone) in
           ap (λ (l : List (List ℕ)). (p ∷ []) ∷ l)
           (ih ∙ one-none cs (mix cs w) (suc p) (λ q l k a. let same : p ≡ q = g .apart p q inside k (hit ∙ sym a) in omega arith))
           ∙ sym (one-here cs (mix cs w) p inside hit)
       go false f ih =
           ih
           ∙ sym (one-next cs (mix cs w) p inside
-          (λ a. eqb-false (mix cs (flip w p)) 0 f (mix-flip cs w p inside ∙ xor-zero-of-eq (mix cs w) (column cs p) (sym a))))
+          (λ a. eqb-false (mix cs (flipped w p)) 0 f (mix-flip cs w p inside ∙ xor-zero-of-eq (mix cs w) (column cs p) (sym a))))
 
   -- the pairs whose lower place is p or higher
   pairs-from : (w m p : ℕ) → p + m ≡ length cs → those (clears cs w) (chosen 2 m p) ≡ pairsFrom cs (mix cs w) m p
@@ -98,26 +100,28 @@ module _ {odd : ℕ → ℕ} {cs : List ℕ} (g : Good odd cs) where
       first =
           those-map (clears cs w) (λ (ps : List ℕ). p ∷ ps) (chosen 1 m (suc p))
           ∙ ap (map (λ (ps : List ℕ). p ∷ ps))
-          (ones-from (flip w p) m (suc p) (omega arith) ∙ ap (λ (s : ℕ). oneFrom cs s (suc p)) (mix-flip cs w p (omega arith)))
+          (ones-from (flipped w p) m (suc p) (omega arith) ∙ ap (λ (s : ℕ). oneFrom cs s (suc p)) (mix-flip cs w p (omega arith)))
           ∙ pair-at cs (mix cs w) p
 
   module _ (w : ℕ) where
-    none : those (clears cs w) (chosen 0 (length cs) 0) ≡ cond (eqb (mix cs w) 0) ([] ∷ []) []
+    no-place : those (clears cs w) (chosen 0 (length cs) 0) ≡ cond (eqb (mix cs w) 0) ([] ∷ []) []
     unfolding those chosen flipAll
-    none = refl
+    no-place = refl
 
-    singles : those (clears cs w) (chosen 1 (length cs) 0) ≡ cond (ltb (placeIn cs (mix cs w)) (length cs)) ((placeIn cs (mix cs w) ∷ []) ∷ []) []
+    one-place : those (clears cs w) (chosen 1 (length cs) 0)
+        ≡ cond (ltb (placeIn cs (mix cs w)) (length cs)) ((placeIn cs (mix cs w) ∷ []) ∷ []) []
     unfolding oneFrom
-    singles = rw (from-zero cs (mix cs w)) at (ones-from w (length cs) 0 (omega arith))
+    one-place = rw (from-zero cs (mix cs w)) at (ones-from w (length cs) 0 (omega arith))
 
-    none-or-one : those (clears cs w) (setsUpTo (length cs) 1)
+    at-most-one : those (clears cs w) (setsUpTo (length cs) 1)
         ≡ cond (eqb (mix cs w) 0) ([] ∷ []) [] ++ cond (ltb (placeIn cs (mix cs w)) (length cs)) ((placeIn cs (mix cs w) ∷ []) ∷ []) []
     unfolding setsUpTo
-    none-or-one =
-        those-append (clears cs w) (chosen 0 (length cs) 0) (chosen 1 (length cs) 0) ∙ ap₂ (λ (a b : List (List ℕ)). a ++ b) none singles
+    at-most-one =
+        those-append (clears cs w) (chosen 0 (length cs) 0) (chosen 1 (length cs) 0)
+        ∙ ap₂ (λ (a b : List (List ℕ)). a ++ b) no-place one-place
 
-    pairs : those (clears cs w) (chosen 2 (length cs) 0) ≡ pairsBy cs (mix cs w)
-    pairs = pairs-from w (length cs) 0 (omega arith)
+    two-places : those (clears cs w) (chosen 2 (length cs) 0) ≡ pairsBy cs (mix cs w)
+    two-places = pairs-from w (length cs) 0 (omega arith)
 
 -- three parts of which one at most holds anything, one behind the other: the same as the first that does
 first-of : (b c : Bool) (x : List ℕ) (l : List (List ℕ)) → (b ≡ true → c ≡ false) → (b ≡ true → l ≡ []) → (c ≡ true → l ≡ [])
@@ -142,14 +146,16 @@ module _ {odd : ℕ → ℕ} {cs : List ℕ} (g : Good odd cs) (o : Parity odd) 
 
   pub heart : (w limit : ℕ) → limit ≤ 2 → clearing cs w limit ≡ bySyndrome cs (mix cs w) limit
   unfolding setsUpTo bySyndrome
-  heart w zero h = none g w
+  heart w zero h = no-place g w
   heart w (suc zero) h =
+      let s = mix cs w in
       sym (append-nil (those (clears cs w) (setsUpTo (length cs) 1)))
-      ∙ ap (λ (l : List (List ℕ)). l ++ []) (none-or-one g w)
-      ∙ first-of (eqb (mix cs w) 0) (ltb (placeIn cs (mix cs w)) (length cs)) (placeIn cs (mix cs w) ∷ []) [] (zero-no-column (mix cs w)) (λ e. refl) (λ e. refl)
+      ∙ ap (λ (l : List (List ℕ)). l ++ []) (at-most-one g w)
+      ∙ first-of (eqb s 0) (ltb (placeIn cs s) (length cs)) (placeIn cs s ∷ []) [] (zero-no-column s) (λ e. refl) (λ e. refl)
   heart w (suc (suc zero)) h =
+      let s = mix cs w in
       those-append (clears cs w) (setsUpTo (length cs) 1) (chosen 2 (length cs) 0)
-      ∙ ap₂ (λ (a b : List (List ℕ)). a ++ b) (none-or-one g w) (pairs g w)
-      ∙ first-of (eqb (mix cs w) 0) (ltb (placeIn cs (mix cs w)) (length cs)) (placeIn cs (mix cs w) ∷ []) (pairsBy cs (mix cs w)) (zero-no-column (mix cs w))
-      (zero-no-pairs (mix cs w)) (column-no-pairs (mix cs w))
+      ∙ ap₂ (λ (a b : List (List ℕ)). a ++ b) (at-most-one g w) (two-places g w)
+      ∙ first-of (eqb s 0) (ltb (placeIn cs s) (length cs)) (placeIn cs s ∷ []) (pairsBy cs s) (zero-no-column s) (zero-no-pairs s)
+      (column-no-pairs s)
   heart w (suc (suc (suc limit))) h = absurd (omega arith)

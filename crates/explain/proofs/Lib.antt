@@ -1,12 +1,7 @@
 pub mod Sets
 pub mod Flips
-pub mod Partners
+pub mod Pairs
 pub mod Heart
-pub mod Cases
-pub mod Order
-pub mod Few
-pub mod Facts
-pub mod Walk
-pub mod Explanations
+pub mod Clean
+pub mod BySyndrome
 pub mod Answers
-pub mod Lists

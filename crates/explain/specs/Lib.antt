@@ -1,4 +1,2 @@
-pub mod Sets
 pub mod Order
-pub mod BySyndrome
 pub mod Explanations

@@ -6,13 +6,13 @@ use Prim.Native.Nat.{ℕ, suc, _≤_, _<_}
 use lib.ListN.{length, getD}
 
 -- places in rising order, the first p or higher, all below n
-abbrev pub Rising : ℕ → ℕ → List ℕ → Type 0
-Rising n p [] = Unit
-Rising n p (q ∷ qs) = (p ≤ q) × (q < n) × Rising n (suc q) qs
+abbrev pub RisingFrom : ℕ → ℕ → List ℕ → Type 0
+RisingFrom n p [] = Unit
+RisingFrom n p (q ∷ qs) = (p ≤ q) × (q < n) × RisingFrom n (suc q) qs
 
 -- a set of at most `limit` of n places
 pub record SetOf (n limit : ℕ) (ps : List ℕ) : Type 0 where
-  pub rising : Rising n 0 ps
+  pub rising : RisingFrom n 0 ps
   pub few : length ps ≤ limit
 
 -- document 01's order: fewer places first, then the lower first place

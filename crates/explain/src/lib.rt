@@ -1,188 +1,64 @@
-// The list of explanations of a word.
+// The explanations of a word.
 ghost use mathlib.Core.Path.{_≡_};
-ghost use Prim.Native.Nat.{_*_, _≤_, _<_};
-ghost use lib.ListN.{length};
-ghost use Rattle.record.specs.Run.{over};
-ghost use Rattle.explain.specs.Sets.{bytesFor, written};
-ghost use Rattle.explain.specs.BySyndrome.{partnerOf, pairsBy, bySyndrome};
-ghost use Rattle.explain.specs.Explanations.{explainedOf, listAfter, numberOf, toldOf, lengthOf};
-use code::Code;
-use code::Judged;
+ghost use Rattle.code.specs.Opened.{Laid, SoundOpened};
+ghost use Rattle.explain.specs.Explanations.{refusedListing, explainOf};
+use code::Opened;
+use code::Refusal;
+use code::Standing;
 use word::Word;
 
-// The answer: the code's refusal, 7, 11, 10 with the list's length, or the length of the list that was written.
-pub enum Explained {
-    Refused(Judged),
-    Stray,
-    OverLimit,
-    NoRoom(usize),
-    Listed(usize),
+// The answer: the list's length where it is done; the list itself stands in the lent bytes.
+#[repr(C)]
+pub struct Listing {
+    pub number: usize,
+    pub told: usize,
+    pub length: usize,
 }
 
-// The place above p whose column makes s with that of p, or the number of places where there is none.
-fn partner(columns: &[u16], s: u16, p: usize) -> usize
-    requires { ⌜ p < length (now columns) ⌝ }
-    ensures { λ q. ⌜ q ≡ partnerOf (now (columns .entry)) s p ⌝ }
+fn refused_listing(refusal: Refusal) -> Listing
+    ensures { λ a. ⌜ a ≡ refusedListing refusal ⌝ }
 {
-    let from = p + 1;
-    let wanted = s ^ columns[p];
-    from + columns::place_in(&columns[from..], wanted)
-}
-
-// How many pairs make s.
-fn count_pairs(columns: &[u16], s: u16) -> usize
-    ensures { λ n. ⌜ n ≡ length (pairsBy (now (columns .entry)) s) ⌝ }
-{
-    let n = columns.len();
-    let mut count: usize = 0;
-    let mut p: usize = 0;
-    while p < n {
-        let q = partner(columns, s, p);
-        p += 1;
-        if q < n {
-            count += 1;
-        }
-    }
-    count
-}
-
-// How many entries the list has.
-fn count_entries(columns: &[u16], s: u16, limit: usize) -> usize
-    ensures { λ n. ⌜ n ≡ length (bySyndrome (now (columns .entry)) s limit) ⌝ }
-{
-    if s == 0 {
-        return 1;
-    }
-    if limit == 0 {
-        return 0;
-    }
-    if columns::place_in(columns, s) < columns.len() {
-        return 1;
-    }
-    if limit == 1 {
-        return 0;
-    }
-    count_pairs(columns, s)
-}
-
-// The pairs, in the first bytes of the list.
-fn put_pairs(columns: &[u16], s: u16, list: &mut [u8])
-    requires { ⌜ (length (now columns) ≤ 255) × (2 * length (pairsBy (now columns) s) ≤ length (now list)) ⌝ }
-    ensures { λ _. ⌜ now (list .exit) ≡ over (bytesFor (pairsBy (now (columns .entry)) s)) (now (list .entry)) ⌝ }
-{
-    let n = columns.len();
-    let mut at: usize = 0;
-    let mut p: usize = 0;
-    while p < n {
-        let q = partner(columns, s, p);
-        let lower = p as u8;
-        p += 1;
-        if q < n {
-            list[at] = lower;
-            list[at + 1] = q as u8;
-            at += 2;
-        }
+    Listing {
+        number: refusal.number,
+        told: refusal.told,
+        length: 0,
     }
 }
 
-// The whole list, in the first bytes.
-fn put_entries(columns: &[u16], s: u16, limit: usize, list: &mut [u8])
-    requires { ⌜ (length (now columns) ≤ 255) × (2 * length (bySyndrome (now columns) s limit) ≤ length (now list)) ⌝ }
-    ensures { λ _. ⌜ now (list .exit) ≡ over (bytesFor (bySyndrome (now (columns .entry)) s limit)) (now (list .entry)) ⌝ }
+// The explanations of a word under an opened code, listed by its syndrome.
+pub fn explain(opened: Opened, word: Word, limit: usize, list: &mut [u8]) -> Listing
+    requires { ⌜ Laid opened ⌝ }
+    requires { ⌜ SoundOpened opened ⌝ }
+    ensures { λ a. ⌜ a ≡ explainOf opened word limit (now (list .entry)) .answer ⌝ }
+    ensures { λ _. ⌜ now (list .exit) ≡ explainOf opened word limit (now (list .entry)) .list ⌝ }
 {
-    if s == 0 {
-        list[0] = 255;
-        list[1] = 255;
-        return;
+    let standing = opened.standing;
+    if let Standing::Refused(refusal) = standing {
+        return refused_listing(refusal);
     }
-    if limit == 0 {
-        return;
-    }
-    let place = columns::place_in(columns, s);
-    if place < columns.len() {
-        list[0] = place as u8;
-        list[1] = 255;
-        return;
-    }
-    if limit == 1 {
-        return;
-    }
-    put_pairs(columns, s, list);
-}
-
-// How many entries the list has; it is written where there is room for all of it, and else not a byte is.
-fn put_list(columns: &[u16], s: u16, limit: usize, list: &mut [u8]) -> usize
-    requires { ⌜ length (now columns) ≤ 255 ⌝ }
-    ensures { λ n. ⌜ n ≡ length (bySyndrome (now (columns .entry)) s limit) ⌝ }
-    ensures { λ _. ⌜ now (list .exit) ≡ written (bySyndrome (now (columns .entry)) s limit) (now (list .entry)) ⌝ }
-{
-    let count = count_entries(columns, s, limit);
-    if count <= list.len() / 2 {
-        put_entries(columns, s, limit, list);
-    }
-    count
-}
-
-// The explanations of a word, listed.
-pub fn explain(code: Code, word: Word, limit: usize, list: &mut [u8]) -> Explained
-    ensures { λ a. ⌜ a ≡ explainedOf code (word .«data») (word .check) limit (length (now (list .entry))) ⌝ }
-    ensures { λ _. ⌜ now (list .exit) ≡ listAfter code (word .«data») (word .check) limit (now (list .entry)) ⌝ }
-{
-    let opened = code::open_code(code);
-    let verdict = opened.verdict;
-    let Judged::Accepted = verdict else {
-        return Explained::Refused(verdict);
-    };
-    let k = code.k;
-    let n = k + code.r;
+    let k = opened.k;
+    let n = opened.n;
     if word::stray_in(n, k, word) {
-        return Explained::Stray;
+        return refused_listing(Refusal { number: 7, told: 0 });
     }
     if limit > 2 {
-        return Explained::OverLimit;
+        return refused_listing(Refusal {
+            number: 11,
+            told: 0,
+        });
     }
     let columns = opened.columns;
     let s = word::syndrome_in(&columns[..n], k, word);
-    let length = put_list(&columns[..n], s, limit, list);
+    let length = listing::put_list(&columns[..n], s, limit, list);
     if length > list.len() / 2 {
-        return Explained::NoRoom(length);
+        return refused_listing(Refusal {
+            number: 10,
+            told: length,
+        });
     }
-    Explained::Listed(length)
-}
-
-// Document 01's number of an answer, what is told with it, and the length of a list that is done.
-pub fn number_of(a: Explained) -> usize
-    ensures { λ n. ⌜ n ≡ numberOf a ⌝ }
-{
-    match a {
-        Explained::Refused(v) => code::number_of(v),
-        Explained::Stray => 7,
-        Explained::OverLimit => 11,
-        Explained::NoRoom(_) => 10,
-        Explained::Listed(_) => 0,
-    }
-}
-
-pub fn told_of(a: Explained) -> usize
-    ensures { λ n. ⌜ n ≡ toldOf a ⌝ }
-{
-    match a {
-        Explained::Refused(v) => code::told_of(v),
-        Explained::Stray => 0,
-        Explained::OverLimit => 0,
-        Explained::NoRoom(n) => n,
-        Explained::Listed(_) => 0,
-    }
-}
-
-pub fn length_of(a: Explained) -> usize
-    ensures { λ n. ⌜ n ≡ lengthOf a ⌝ }
-{
-    match a {
-        Explained::Refused(_) => 0,
-        Explained::Stray => 0,
-        Explained::OverLimit => 0,
-        Explained::NoRoom(_) => 0,
-        Explained::Listed(n) => n,
+    Listing {
+        number: 0,
+        told: 0,
+        length,
     }
 }

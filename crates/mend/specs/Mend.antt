@@ -1,40 +1,42 @@
--- The program's sample code, and what it makes of a run: document 01, the last item of "The sample code, worked". Assumes nothing.
-use mathlib.Core.List.{List, _∷_}
-use Prim.Native.Nat.{ℕ, _*_, _-_, _≤_}
-use lib.ListN.{length, replicate}
+-- What the program makes of a run under the sample code: document 01, the last item of "The sample code, worked". Assumes nothing.
+use mathlib.Core.List.{List}
+use Prim.Native.Nat.{ℕ, _*_, _/_, _-_, _≤_}
+use lib.ListN.{length}
 use Rattle.record.specs.declared.Tally.{Tally}
-use Rattle.code.specs.declared.Code.{Code}
-use Rattle.code.specs.Rule.{matrixOf}
-use Rattle.pass.specs.Pass.{leftRun, entriesRun, tallyRun, roomIn}
-use Rattle.pass.specs.Says.{Image, Run}
+use Rattle.record.specs.Layout.{dataSize, entrySize}
+use Rattle.code.specs.Opened.{openedOf}
+use Rattle.code.specs.Sample.{sampleCode}
+use Rattle.at_record.specs.Outcome.{Reader}
+use Rattle.pass.specs.Pass.{readerOf, leftRun, entriesRun, tallyRun, roomIn}
+use Rattle.pass.specs.Asked.{Image, Run}
 use Rattle.report.specs.declared.Totals.{Totals}
 use Rattle.report.specs.Text.{lineSize, journalText}
 
--- source document 002, figure 2, in the 64 places of a code
-abbrev pub sampleCode : Code
-sampleCode = record { columns = 28 ∷ 26 ∷ 25 ∷ 22 ∷ 21 ∷ 19 ∷ 14 ∷ 13 ∷ replicate 56 0; k = 8; r = 5 }
+-- what the program reads records with
+abbrev pub sampleReader : Reader
+sampleReader = readerOf (openedOf sampleCode) dataSize
 
 -- ---- the run from the record a up to b: its tally, the image afterwards, the lines of its entries
 
 unfoldable pub runTally : List ℕ → ℕ → ℕ → Tally
-runTally image a b = tallyRun (matrixOf sampleCode) (sampleCode .k) image a b
+runTally image a b = tallyRun sampleReader image a b
 
 unfoldable pub runLeft : List ℕ → ℕ → ℕ → List ℕ
-runLeft image a b = leftRun (matrixOf sampleCode) (sampleCode .k) image a b
+runLeft image a b = leftRun sampleReader image a b
 
 unfoldable pub runText : List ℕ → ℕ → ℕ → List ℕ
-runText image a b = journalText (entriesRun (matrixOf sampleCode) (sampleCode .k) image a b)
+runText image a b = journalText (entriesRun sampleReader image a b)
 
 -- the most records of a run, so that no buffer passes 64 KiB
 abbrev pub runSize : ℕ
-runSize = 2730
+runSize = 65536 / entrySize dataSize
 
 -- a run that can be passed over, with room for an entry and a line of each of its records
 pub record Ready (image : List ℕ) (a b : ℕ) (journal lines : List ℕ) : Type 0 where
-  pub records : Image image
-  pub run : Run image a b
-  pub room : b - a ≤ roomIn journal
-  pub space : lineSize * roomIn journal ≤ length lines
+  pub records : Image dataSize image
+  pub run : Run dataSize image a b
+  pub room : b - a ≤ roomIn dataSize journal
+  pub space : lineSize * roomIn dataSize journal ≤ length lines
 
 -- the counts of a tally, as the sums of several
 abbrev pub asTotals : Tally → Totals

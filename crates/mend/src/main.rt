@@ -2,15 +2,18 @@
 ghost use mathlib.Core.Path.{_≡_};
 ghost use Prim.Native.Nat.{_+_, _*_, _≤_, _<_};
 ghost use lib.ListN.{length};
+ghost use Rattle.record.specs.Layout.{dataSize, imageLimit};
 ghost use Rattle.record.specs.Run.{over};
-ghost use Rattle.pass.specs.Pass.{recordsIn, roomIn};
-ghost use Rattle.pass.specs.Says.{Image};
+ghost use Rattle.code.specs.Sample.{sampleCode};
+ghost use Rattle.over_run.specs.Whole.{recordsIn};
+ghost use Rattle.pass.specs.Pass.{roomIn};
+ghost use Rattle.pass.specs.Asked.{Image};
 ghost use Rattle.report.specs.Text.{lineSize};
-ghost use Rattle.mend.specs.Mend.{sampleCode, runTally, runLeft, runText, runSize, Ready, asTotals};
+ghost use Rattle.mend.specs.Mend.{runTally, runLeft, runText, runSize, Ready, asTotals};
 use code::Code;
-use pass::Passed;
+use record::DATA;
 use record::ENTRY;
-use record::IMAGE_LIMIT;
+use record::IMAGE_BOUND;
 use record::RECORD;
 use record::Tally;
 use report::LINE;
@@ -19,10 +22,10 @@ use report::TALLY_LINE;
 use report::Totals;
 
 // One byte more than an image may have, so that a longer input shows.
-const INPUT: usize = IMAGE_LIMIT + 1;
+const INPUT: usize = IMAGE_BOUND / RECORD * RECORD + 1;
 
 // The most records of a run, so that no buffer passes 64 KiB.
-const RUN: usize = 2730;
+const RUN: usize = 65536 / ENTRY;
 
 const JOURNAL: usize = RUN * ENTRY;
 
@@ -61,10 +64,9 @@ fn mend_run(
     ensures { λ _. ⌜ now (image .exit) ≡ runLeft (now (image .entry)) start end ⌝ }
     ensures { λ _. ⌜ now (lines .exit) ≡ over (runText (now (image .entry)) start end) (now (lines .entry)) ⌝ }
 {
-    let answer = pass::pass(sample_code(), image, start, end, journal);
-    let Passed::Done(tally) = answer else {
-        return Tally::new();
-    };
+    let opened = code::open_code(sample_code());
+    let answer = pass::pass(opened, DATA, image, start, end, journal);
+    let tally = answer.tally;
     let used = ENTRY * report::entries_in(tally);
     let size = report::journal_text(&journal[..used], lines);
     io::write_all(libc::STDOUT_FILENO, &lines[..size]);
@@ -85,10 +87,10 @@ fn run_end(start: usize, records: usize) -> usize
 
 // The image run by run, the tallies summed.
 fn mend_runs(image: &mut [u8], journal: &mut [u8], lines: &mut [u8]) -> Totals
-    requires { ⌜ Image (now image) ⌝ }
-    requires { ⌜ (runSize ≤ roomIn (now journal)) × (lineSize * roomIn (now journal) ≤ length (now lines)) ⌝ }
-    ensures { λ t. ⌜ t ≡ asTotals (runTally (now (image .entry)) 0 (recordsIn (now (image .entry)))) ⌝ }
-    ensures { λ _. ⌜ now (image .exit) ≡ runLeft (now (image .entry)) 0 (recordsIn (now (image .entry))) ⌝ }
+    requires { ⌜ Image dataSize (now image) ⌝ }
+    requires { ⌜ (runSize ≤ roomIn dataSize (now journal)) × (lineSize * roomIn dataSize (now journal) ≤ length (now lines)) ⌝ }
+    ensures { λ t. ⌜ t ≡ asTotals (runTally (now (image .entry)) 0 (recordsIn dataSize (now (image .entry)))) ⌝ }
+    ensures { λ _. ⌜ now (image .exit) ≡ runLeft (now (image .entry)) 0 (recordsIn dataSize (now (image .entry))) ⌝ }
 {
     let records = image.len() / RECORD;
     let mut totals = Totals::new();
@@ -120,16 +122,27 @@ fn print_refusal(number: usize)
 fn mend_image(image: &mut [u8]) {
     let mut journal = [0u8; JOURNAL];
     let mut lines = [0u8; LINES];
-    let answer = pass::pass(sample_code(), image, 0, 0, &mut journal);
-    let Passed::Done(_) = answer else {
-        print_refusal(pass::number_of(answer));
+    let opened = code::open_code(sample_code());
+    let answer = pass::pass(opened, DATA, image, 0, 0, &mut journal);
+    let number = answer.number;
+    if number != 0 {
+        print_refusal(number);
         return;
-    };
+    }
     print_tally(mend_runs(image, &mut journal, &mut lines));
+}
+
+// The input, into a buffer that a byte more than an image has fits in; answers how many bytes it has.
+fn read_image(image: &mut [u8]) -> usize
+    requires { ⌜ imageLimit dataSize < length (now image) ⌝ }
+    ensures { λ n. ⌜ n ≤ length (now (image .exit)) ⌝ }
+    ensures { λ _. ⌜ length (now (image .exit)) ≡ length (now (image .entry)) ⌝ }
+{
+    io::read_full(libc::STDIN_FILENO, image)
 }
 
 fn main() {
     let mut image = [0u8; INPUT];
-    let size = io::read_full(libc::STDIN_FILENO, &mut image);
+    let size = read_image(&mut image);
     mend_image(&mut image[..size]);
 }

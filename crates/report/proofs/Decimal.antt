@@ -8,7 +8,7 @@ use native.Mathlib.Omega.{arith}
 use borrow.Author.Tests.{lt-ltb, le-ltb}
 use lib.Dec.{ltb}
 use lib.ListN.{length, length-append}
-use Rattle.report.specs.Text.{digit, decimalIn, decimalOf}
+use Rattle.report.specs.Text.{digit, decimalIn, decimalOf, saidFrom}
 
 -- where there is room for every digit, more room changes nothing
 enough : (m k n : ℕ) → n ≤ m → n ≤ k → decimalIn m n ≡ decimalIn k n
@@ -28,7 +28,8 @@ pub decimal-more : (n : ℕ) → 10 ≤ n → decimalOf n ≡ decimalOf (n / 10)
 unfolding decimalOf decimalIn
 decimal-more zero h = absurd (omega arith)
 decimal-more (suc m) h =
-    simp (le-ltb _ _ h) (ap (λ (l : List ℕ). l ++ (digit (suc m % 10) ∷ [])) (enough m (suc m / 10) (suc m / 10) (omega arith) (omega arith)))
+    simp (le-ltb _ _ h) (ap (λ (l : List ℕ). l ++ (digit (suc m % 10) ∷ []))
+    (enough m (suc m / 10) (suc m / 10) (omega arith) (omega arith)))
 
 pub length-more : (n : ℕ) → 10 ≤ n → length (decimalOf n) ≡ length (decimalOf (n / 10)) + 1
 length-more n h = ap length (decimal-more n h) ∙ length-append (decimalOf (n / 10)) (digit (n % 10) ∷ [])
@@ -42,11 +43,6 @@ decimal-short (suc k) n h =
       | no l ↦ omega (arith, length-more n (omega arith), decimal-short k (n / 10) (omega arith))
     ]
 
--- what digits say, read from the left behind digits that say a
-unfoldable pub saidFrom : ℕ → List ℕ → ℕ
-saidFrom a [] = a
-saidFrom a (d ∷ ds) = saidFrom (a * 10 + (d - digit 0)) ds
-
 said-last : (a d : ℕ) (ds : List ℕ) → saidFrom a (ds ++ (digit d ∷ [])) ≡ saidFrom a ds * 10 + d
 unfolding saidFrom
 said-last a d [] = omega arith
@@ -59,7 +55,8 @@ said-in zero n h = omega arith
 said-in (suc m) n h =
     elim (decLt n 10) as (λ d. saidFrom 0 (decimalIn (suc m) n) ≡ n) [
       | yes l ↦ simp (lt-ltb _ _ l) (omega arith)
-      | no l ↦ simp (le-ltb n 10 (omega arith)) (omega (arith, said-last 0 (n % 10) (decimalIn m (n / 10)), said-in m (n / 10) (omega arith)))
+      | no l ↦ simp (le-ltb n 10 (omega arith))
+          (omega (arith, said-last 0 (n % 10) (decimalIn m (n / 10)), said-in m (n / 10) (omega arith)))
     ]
 
 pub decimal-says : (n : ℕ) → saidFrom 0 (decimalOf n) ≡ n

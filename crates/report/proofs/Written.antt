@@ -6,7 +6,6 @@ use native.Mathlib.Numerals.{add-one}
 use native.Mathlib.Omega.{arith}
 use lib.ListN.{length, take, drop, set, length-append, length-take, length-drop}
 use lib.Seq.{set-split, drop-drop, length-take-le}
-use borrow.Rule.Slice.PartMut.{putMid}
 use Rattle.record.specs.Run.{over}
 use Rattle.record.proofs.Over.{over-part}
 use Rattle.report.specs.Text.{written, Held}
@@ -14,10 +13,6 @@ use Rattle.report.specs.Text.{written, Held}
 -- what a function that writes a text answers, and leaves behind
 abbrev pub Puts : ℕ → List ℕ → List ℕ → ℕ → List ℕ → Type 0
 Puts at text d end out = (end ≡ at + length text) × (out ≡ written at text d)
-
-pub length-written : (at : ℕ) (text d : List ℕ) → at + length text ≤ length d → length (written at text d) ≡ length d
-unfolding written
-length-written at text d h = simp (length-append, length-take, length-drop) (omega arith)
 
 pub set-written : (d : List ℕ) (at v : ℕ) → at < length d → set d at v ≡ written at (v ∷ []) d
 unfolding written
@@ -35,7 +30,8 @@ written-is at text d h =
     (sym (append-assoc (take at d) text (drop (length text) (drop at d))))
 
 -- two texts, one behind the other, are one
-pub both : (at mid end : ℕ) (s t d between out : List ℕ) → at + length s ≤ length d → Puts at s d mid between → Puts mid t between end out → Puts at (s ++ t) d end out
+pub both : (at mid end : ℕ) (s t d between out : List ℕ) → at + length s ≤ length d → Puts at s d mid between
+    → Puts mid t between end out → Puts at (s ++ t) d end out
 both at mid end s t d between out h p q =
     let l : length (take at d ++ s) ≡ mid = simp (length-append, length-take) (omega arith) in (
       simp length-append (omega arith),
@@ -45,17 +41,6 @@ both at mid end s t d between out h p q =
           ∙ ap (λ (m : List ℕ). over m d) (append-assoc (take at d) s t)
           ∙ sym (written-is at (s ++ t) d (omega arith)),
     )
-
-pub three : (at second third end : ℕ) (s t u d between later out : List ℕ) → at + (length s + length t) ≤ length d
-    → Puts at s d second between → Puts second t between third later → Puts third u later end out → Puts at (s ++ (t ++ u)) d end out
-three at second third end s t u d between later out h p q r =
-    let l : length between ≡ length d = ap length (p .1) ∙ length-written at s d (omega arith) in
-    both at second end s (t ++ u) d between out (omega arith) p (both second third end t u between later out (omega arith) q r)
-
--- a part that is lent and comes back as the text
-pub part-written : (d ys text : List ℕ) (at k : ℕ) → k ≡ length text → ys ≡ text → putMid at k d ys ≡ written at text d
-unfolding written
-part-written d ys text at k e f = rw (e, f)
 
 -- a text at the front, which can be lent on
 pub fronted : (n : ℕ) (text d out : List ℕ) → n ≡ length text → out ≡ over text d → (n ≡ length text) × ((out ≡ over text d) × Held n out)

@@ -2,18 +2,21 @@
 use mathlib.Core.Path.{_≡_, refl}
 use mathlib.Core.Bool.{true}
 use lib.Count.{ones, onesIn}
-use Rattle.columns.specs.Mix.{mix, unitsFrom, units, placeIn}
-use Rattle.columns.specs.Bits.{rowBit, rowsFrom}
+use Rattle.columns.specs.Mix.{mix, singlesFrom, singles, placeIn}
+use Rattle.columns.specs.Solving.{solveFrom, solve}
 use Rattle.code.specs.Judge.{judgeColumn, judgeFrom, judgeColumns, judgeIn}
 use Rattle.balance.specs.Balance.{sumOf, balanceAt, balancesFrom}
-use Rattle.word.specs.Writing.{writeOf}
-use Rattle.word.specs.Reading.{verdictOn, readIn, readOf}
-use Rattle.explain.specs.Sets.{flipAll, chosen, setsUpTo, those, bytesFor}
-use Rattle.explain.specs.Explanations.{explanations, explainedOf}
+use Rattle.word.specs.Word.{flippedIn}
+use Rattle.word.specs.Verdicts.{verdictOn, readIn}
+use Rattle.word.specs.Writing.{writeIn}
+use Rattle.listing.specs.Sets.{flipAll, chosen, setsUpTo, those, bytesFor}
+use Rattle.explain.specs.Explanations.{explanations, listedIn, explainIn}
 use Rattle.cards.specs.Cards.{weakMask, firstFrom, tryMask, weakMaskIn, tryCard, weakCardIn}
-use Rattle.cards.specs.Checking.{cardedIn, cardedOf}
+use Rattle.cards.specs.Checking.{cardedIn}
 use Rattle.worked.specs.Table.{right, allRight, table}
 
 pub all-hold : allRight table ≡ true
-unfolding allRight table right ones onesIn mix unitsFrom units placeIn rowBit rowsFrom judgeColumn judgeFrom judgeColumns judgeIn sumOf balanceAt balancesFrom writeOf verdictOn readIn readOf flipAll chosen setsUpTo those bytesFor explanations explainedOf weakMask firstFrom tryMask weakMaskIn tryCard weakCardIn cardedIn cardedOf
+unfolding allRight table right ones onesIn mix singlesFrom singles placeIn solveFrom solve judgeColumn judgeFrom judgeColumns judgeIn sumOf
+    balanceAt balancesFrom flippedIn verdictOn readIn writeIn flipAll chosen setsUpTo those bytesFor explanations listedIn
+    explainIn weakMask firstFrom tryMask weakMaskIn tryCard weakCardIn cardedIn
 all-hold = refl

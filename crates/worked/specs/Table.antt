@@ -1,5 +1,5 @@
--- Document 01, "The sample code, worked": the items marked P, as one table. Each row names a question and the answer that the exported function
--- is to give; `right` asks whether its definition gives it. Assumes nothing.
+-- Document 01, "The sample code, worked": the items marked P, as one table. Each row names a question and the answer that the exported
+-- function is to give; `right` asks whether its definition gives it. Assumes nothing.
 use mathlib.Core.Bool.{Bool, true, false, _&&_}
 use mathlib.Core.List.{List, [], _∷_, _++_}
 use Prim.Native.Nat.{ℕ, _-_}
@@ -9,20 +9,17 @@ use lib.IntN.{ℤ, pos, negsuc}
 use lib.ListN.{length, replicate}
 use Rattle.code.specs.declared.Code.{Code}
 use Rattle.code.specs.Rule.{matrixOf}
+use Rattle.code.specs.Sample.{codeOf, sampleCode}
 use Rattle.balance.specs.Balance.{allOnes}
-use Rattle.explain.specs.Explanations.{listAfter}
-use Rattle.desk.specs.Answers.{judgementOf, rowsOf, writtenOf, readOf, listingOf, cardsOf}
-
--- a code of these columns, 0 in the places past them
-abbrev pub codeOf : List ℕ → ℕ → Code
-codeOf columns r = record { columns = columns ++ replicate (64 - length columns) 0; k = length columns; r = r }
-
-abbrev pub sample : Code
-sample = codeOf (28 ∷ 26 ∷ 25 ∷ 22 ∷ 21 ∷ 19 ∷ 14 ∷ 13 ∷ []) 5
+use Rattle.desk.specs.Answers.{judgementOf, rowsOf, writtenOf, readOf, explainedOf, cardsOf}
 
 -- columns 7 and 11 with r 4
 abbrev pub two : Code
 two = codeOf (7 ∷ 11 ∷ []) 4
+
+-- bytes that a caller lends, with something in them: n times 170
+abbrev pub lent : ℕ → List ℕ
+lent n = replicate n 170
 
 -- what is asked, and the answer
 pub data Case : Type 0 where
@@ -30,17 +27,17 @@ pub data Case : Type 0 where
   judged : (code : Code) (number told : ℕ) → Case
   -- all ones of the matrix
   weighed : (code : Code) (ones : ℕ) → Case
-  -- the first r balances; the other rows are 0
-  balanced : (code : Code) (rows : List ℤ) → Case
+  -- number, told place, and the first r balances; the other rows are 0
+  balanced : (code : Code) (number told : ℕ) (rows : List ℤ) → Case
   -- the check bits of the data
   written : (code : Code) (low check : ℕ) → Case
   -- the syndrome of a word; its verdict, its place and the word handed back
   syndrome : (code : Code) (low high s : ℕ) → Case
   reads : (code : Code) (low high verdict place data₁ check₁ : ℕ) → Case
-  -- a list of explanations, in a lent buffer of zeros of this size: number, told, length, and the bytes afterwards
+  -- a list of explanations, in a lent buffer of this size: number, told, length, and the bytes afterwards
   listed : (code : Code) (low high limit size number told entries : ℕ) (bytes : List ℕ) → Case
-  -- number, card and mask
-  carded : (code : Code) (b number card mask : ℕ) → Case
+  -- number, told place, card and mask
+  carded : (code : Code) (b number told card mask : ℕ) → Case
 
 abbrev pub sameℤ : ℤ → ℤ → Bool
 sameℤ (pos a) (pos b) = eqb a b
@@ -64,17 +61,24 @@ sameBytes (x ∷ xs) (y ∷ ys) = eqb x y && sameBytes xs ys
 unfoldable pub right : Case → Bool
 right (judged code number told) = eqb (judgementOf code .number) number && eqb (judgementOf code .told) told
 right (weighed code n) = eqb (allOnes (matrixOf code)) n
-right (balanced code rows) = sameRows (rowsOf code .rows) (rows ++ replicate (16 - length rows) (pos 0))
-right (written code low check) = eqb (writtenOf code low .number) 0 && eqb (writtenOf code low .check) check
+right (balanced code number told rows) =
+    eqb (rowsOf code .number) number && eqb (rowsOf code .told) told
+    && sameRows (rowsOf code .rows) (rows ++ replicate (16 - length rows) (pos 0))
+right (written code low check) =
+    eqb (writtenOf code low .number) 0 && eqb (writtenOf code low .told) 0 && eqb (writtenOf code low .check) check
 right (syndrome code low high s) = eqb (bitXor (writtenOf code low .check) high) s
 right (reads code low high verdict place data₁ check₁) =
-    eqb (readOf code low high .number) 0 && eqb (readOf code low high .verdict) verdict && eqb (readOf code low high .place) place
+    eqb (readOf code low high .number) 0 && eqb (readOf code low high .told) 0
+    && eqb (readOf code low high .verdict) verdict && eqb (readOf code low high .place) place
     && eqb (readOf code low high .«data») data₁ && eqb (readOf code low high .check) check₁
 right (listed code low high limit size number told entries bytes) =
-    eqb (listingOf code low high limit size .number) number && eqb (listingOf code low high limit size .told) told
-    && eqb (listingOf code low high limit size .length) entries && sameBytes (listAfter code low high limit (replicate size 0)) bytes
-right (carded code b number card mask) =
-    eqb (cardsOf code b .number) number && eqb (cardsOf code b .card) card && eqb (cardsOf code b .mask) mask
+    eqb (explainedOf code low high limit (lent size) .answer .number) number
+    && eqb (explainedOf code low high limit (lent size) .answer .told) told
+    && eqb (explainedOf code low high limit (lent size) .answer .length) entries
+    && sameBytes (explainedOf code low high limit (lent size) .list) bytes
+right (carded code b number told card mask) =
+    eqb (cardsOf code b .number) number && eqb (cardsOf code b .told) told
+    && eqb (cardsOf code b .card) card && eqb (cardsOf code b .mask) mask
 
 unfoldable pub allRight : List Case → Bool
 allRight [] = true
@@ -82,26 +86,27 @@ allRight (c ∷ cs) = right c && allRight cs
 
 unfoldable pub table : List Case
 table =
-    judged sample 0 0
-    ∷ weighed sample 29
-    ∷ balanced sample (negsuc 3 ∷ negsuc 3 ∷ pos 1 ∷ pos 1 ∷ pos 6 ∷ [])
-    ∷ written sample 0x01 28
-    ∷ written sample 0xFF 12
-    ∷ written sample 0xA5 27
-    ∷ reads sample 0xA5 27 0 255 0xA5 27
-    ∷ syndrome sample 0xA4 27 28
-    ∷ reads sample 0xA4 27 1 0 0xA5 27
-    ∷ reads sample 0xA5 26 2 8 0xA5 27
-    ∷ syndrome sample 0xA6 27 6
-    ∷ reads sample 0xA6 27 3 255 0xA6 27
-    ∷ listed sample 0xA6 27 2 10 0 0 5 (0 ∷ 1 ∷ 3 ∷ 12 ∷ 4 ∷ 5 ∷ 6 ∷ 11 ∷ 9 ∷ 10 ∷ [])
-    ∷ listed sample 0xA6 27 1 0 0 0 0 []
-    ∷ listed sample 0xA6 27 2 8 10 5 0 (replicate 8 0)
-    ∷ syndrome sample 0xA6 26 7
-    ∷ reads sample 0xA6 26 4 255 0xA6 26
-    ∷ listed sample 0xA6 26 0 0 0 0 0 []
-    ∷ listed sample 0xA6 26 1 0 0 0 0 []
-    ∷ listed sample 0xA6 26 2 0 0 0 0 []
-    ∷ carded two 3 0 0 0
-    ∷ carded two 4 9 0 13
+    judged sampleCode 0 0
+    ∷ weighed sampleCode 29
+    ∷ balanced sampleCode 0 0 (negsuc 3 ∷ negsuc 3 ∷ pos 1 ∷ pos 1 ∷ pos 6 ∷ [])
+    ∷ written sampleCode 0x01 28
+    ∷ written sampleCode 0xFF 12
+    ∷ written sampleCode 0xA5 27
+    ∷ reads sampleCode 0xA5 27 0 255 0xA5 27
+    ∷ syndrome sampleCode 0xA4 27 28
+    ∷ reads sampleCode 0xA4 27 1 0 0xA5 27
+    ∷ reads sampleCode 0xA5 26 2 8 0xA5 27
+    ∷ syndrome sampleCode 0xA6 27 6
+    ∷ reads sampleCode 0xA6 27 3 255 0xA6 27
+    ∷ listed sampleCode 0xA6 27 2 13 0 0 5 (0 ∷ 1 ∷ 3 ∷ 12 ∷ 4 ∷ 5 ∷ 6 ∷ 11 ∷ 9 ∷ 10 ∷ lent 3)
+    ∷ listed sampleCode 0xA6 27 1 0 0 0 0 []
+    ∷ listed sampleCode 0xA6 27 1 3 0 0 0 (lent 3)
+    ∷ listed sampleCode 0xA6 27 2 9 10 5 0 (lent 9)
+    ∷ syndrome sampleCode 0xA6 26 7
+    ∷ reads sampleCode 0xA6 26 4 255 0xA6 26
+    ∷ listed sampleCode 0xA6 26 0 0 0 0 0 []
+    ∷ listed sampleCode 0xA6 26 1 0 0 0 0 []
+    ∷ listed sampleCode 0xA6 26 2 4 0 0 0 (lent 4)
+    ∷ carded two 3 0 0 0 0
+    ∷ carded two 4 9 0 0 13
     ∷ []

@@ -135,3 +135,14 @@ impl Desk for Wrapper {
         program::mend(input)
     }
 }
+
+#[cfg(test)]
+mod tests {
+    use super::*;
+
+    #[test]
+    fn every_worked_case() {
+        assert_eq!(second::worked(&Archive), Vec::<String>::new());
+        assert_eq!(second::worked(&Wrapper), Vec::<String>::new());
+    }
+}

@@ -1,11 +1,12 @@
 //! The questions.
 
+use crate::refusal::Plain;
 use crate::{ffi, Code, Explanation, Reading, Refusal, Tally, Verdict, Word, LONGEST_LIST, NO_PLACE};
 use std::ops::Range;
 
 /// The answer where the number is 0, else the refusal that these numbers are.
 fn done<T>(number: usize, told: usize, answer: T) -> Result<T, Refusal> {
-    Refusal::answered(number, told, 0, 0).map_or(Ok(answer), Err)
+    Refusal::of(Plain { number, told, ..Plain::default() }).map_or(Ok(answer), Err)
 }
 
 /// The smallest number of check bits for which a code of `k` data bits exists.
@@ -144,7 +145,9 @@ impl Code {
         done(answer.number, answer.told, answer.length)
     }
 
-    /// Is every error of two or more bits within one card of `b` places flagged? If not, a weak card is told.
+    /// Is every error of two or more bits within one card of `b` places flagged?
+    ///
+    /// If not, the first weak card is told, and the smallest mask on it that breaks the rule; bit t is the card's place t.
     ///
     /// ```
     /// use desk::{Code, Refusal};
@@ -157,8 +160,8 @@ impl Code {
     /// # }
     /// ```
     pub fn card_check(&self, b: usize) -> Result<(), Refusal> {
-        let answer = ffi::cards(self, b);
-        Refusal::answered(answer.number, answer.told, answer.card, answer.mask).map_or(Ok(()), Err)
+        let ffi::CardCheck { number, told, card, mask } = ffi::cards(self, b);
+        Refusal::of(Plain { number, told, card, mask }).map_or(Ok(()), Err)
     }
 
     /// Passes over a run of the image's records, mends those with one flip, and notes each that is not clean.

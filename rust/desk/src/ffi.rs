@@ -1,11 +1,13 @@
 //! The archive as it is: a safe function for each exported one, with plain numbers in and out.
 //!
 //! `include/desk.h` says the same for C. In every answer `number` is 0 (done) or the number of the refusal, and `told`
-//! is what goes with it: for 3 to 6 the place of the bad column, for 10 the length of the list, for 13 the entries
-//! needed, else 0. A refusal has 0 in every other field (9 has its card and mask) and changes no byte that was lent.
+//! is what [`Refusal`](crate::Refusal) has with that number, else 0. A refusal has 0 in every other field (9 has its card
+//! and mask) and changes no byte that was lent. Calls share no state, and may run on any thread.
 //!
 //! This is the only module with `unsafe`.
 #![allow(unsafe_code)]
+
+use crate::version;
 
 /// A code as it is handed about: `k` data columns, each with row j as its bit j, and `r` check bits.
 ///
@@ -140,6 +142,7 @@ pub struct PassAnswer {
 }
 
 extern "C" {
+    fn desk_version() -> usize;
     fn desk_check_bits(k: usize) -> CheckBits;
     fn desk_judge(code: Code) -> Judgement;
     fn desk_row_balance(code: Code) -> RowBalance;
@@ -158,45 +161,59 @@ extern "C" {
     ) -> PassAnswer;
 }
 
-// Why the calls below are safe: each function is total and asks nothing of its numbers; a lent slice is live, its
-// length is its own, and two slices lent at once are apart because both are `&mut`.
+/// Asks the archive, once it is known to be of this crate's version.
+///
+/// Why this is safe: the declarations are those of that version; each function is total and asks nothing of its numbers;
+/// a lent slice is live, its length is its own, and two slices lent at once are apart because both are `&mut`.
+macro_rules! ask {
+    ($function:ident($($argument:expr),*)) => {{
+        version::compared();
+        unsafe { $function($($argument),*) }
+    }};
+}
+
+/// The version of the archive, to be compared with [`VERSION`](crate::VERSION); every other function here does so.
+pub fn version() -> usize {
+    // Safe, since this function is the same in every version.
+    unsafe { desk_version() }
+}
 
 /// The smallest number of check bits for which a code of `k` data bits exists; refuses with 1.
 pub fn check_bits(k: usize) -> CheckBits {
-    unsafe { desk_check_bits(k) }
+    ask!(desk_check_bits(k))
 }
 
 /// Whether this is a code; refuses with 1 to 6, as every question below does.
 pub fn judge(code: &Code) -> Judgement {
-    unsafe { desk_judge(*code) }
+    ask!(desk_judge(*code))
 }
 
 /// For each row: r times the ones in that row, less all ones of the matrix.
 pub fn row_balance(code: &Code) -> RowBalance {
-    unsafe { desk_row_balance(*code) }
+    ask!(desk_row_balance(*code))
 }
 
 /// The check bits that go with the data; refuses with 7.
 pub fn write(code: &Code, data: u64) -> CheckWord {
-    unsafe { desk_write(*code, data) }
+    ask!(desk_write(*code, data))
 }
 
 /// What is in the word as read, and the word mended where one flip explains it; refuses with 7.
 pub fn read(code: &Code, data: u64, check: u16) -> ReadWord {
-    unsafe { desk_read(*code, data, check) }
+    ask!(desk_read(*code, data, check))
 }
 
 /// All sets of at most `limit` places that explain the word, into `list`, two bytes a set; refuses with 7, 11, 10.
 pub fn explain(code: &Code, data: u64, check: u16, limit: usize, list: &mut [u8]) -> Listing {
-    unsafe { desk_explain(*code, data, check, limit, list.as_mut_ptr(), list.len()) }
+    ask!(desk_explain(*code, data, check, limit, list.as_mut_ptr(), list.len()))
 }
 
 /// Whether every error of two or more bits within one card of `b` places is flagged; refuses with 8, 9.
 pub fn cards(code: &Code, b: usize) -> CardCheck {
-    unsafe { desk_cards(*code, b) }
+    ask!(desk_cards(*code, b))
 }
 
 /// Mends the records from `start` up to but not `end` and notes each that is not clean; refuses with 12, 14, 13.
 pub fn pass(code: &Code, image: &mut [u8], start: usize, end: usize, journal: &mut [u8]) -> PassAnswer {
-    unsafe { desk_pass(*code, image.as_mut_ptr(), image.len(), start, end, journal.as_mut_ptr(), journal.len()) }
+    ask!(desk_pass(*code, image.as_mut_ptr(), image.len(), start, end, journal.as_mut_ptr(), journal.len()))
 }

@@ -31,7 +31,8 @@
 //! # }
 //! ```
 //!
-//! Those who want the plain numbers of the archive find them in [`ffi`].
+//! Those who want the plain numbers of the archive find them in [`ffi`]. Either way the first call compares versions, and
+//! stops at an archive that is of another than [`VERSION`].
 #![deny(missing_docs, unsafe_code)]
 
 pub mod ffi;
@@ -39,11 +40,13 @@ pub mod ffi;
 mod code;
 mod refusal;
 mod tally;
+mod version;
 mod word;
 
 pub use code::check_bits_wanted;
 pub use ffi::{Code, Tally};
 pub use refusal::Refusal;
+pub use version::VERSION;
 pub use word::{Explanation, Reading, Verdict, Word};
 
 /// Bytes of a record: data in 8, check bits in 2, low byte first.

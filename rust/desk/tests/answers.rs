@@ -6,6 +6,11 @@ use common::*;
 use desk::{Code, Explanation, Refusal, Tally, Verdict, Word, ENTRY, IMAGE, LONGEST_LIST, RECORD};
 
 #[test]
+fn a_new_code_has_its_columns_and_zeros() {
+    assert_eq!(Code::new(&[28, 26, 25, 22, 21, 19, 14, 13], 5), Ok(sample()));
+}
+
+#[test]
 fn a_verdict_has_its_number() {
     let names = ["Clean", "Data", "Check", "Even", "Odd", "Stray"];
     for (number, name) in names.iter().enumerate() {
@@ -44,7 +49,9 @@ fn an_explanation_is_no_place_one_or_two() {
     let explained = |data: u64, limit: usize| sample().explain(Word { data, check: 27 }, limit).unwrap();
     assert_eq!(explained(0xA5, 2), [Explanation::Nothing]);
     assert_eq!(explained(0xA4, 2), [Explanation::One(0)]);
-    assert_eq!(explained(0xA6, 2)[1], Explanation::Two(3, 12));
+    let pairs = [(0, 1), (3, 12), (4, 5), (6, 11), (9, 10)];
+    assert_eq!(explained(0xA6, 2), pairs.map(|(lower, higher)| Explanation::Two(lower, higher)));
+    assert_eq!(explained(0xA6, 1), []);
 }
 
 /// Every place in a pair whose columns differ by 3: check bits 0 and 1; each further check bit with a data column; and

@@ -1,6 +1,7 @@
-//! The layout of every struct as Rust has it, against c/layout.txt, which the C compiler is held to as well.
+//! Version, sizes and the layout of every struct as Rust has them, against c/layout.txt, which C is held to as well.
 
 use desk::ffi::*;
+use desk::{ENTRY, IMAGE, LONGEST_LIST, NO_PLACE, RECORD, VERSION};
 use std::mem::{align_of, size_of, size_of_val};
 
 /// The lines of a struct: its size, then each of its fields.
@@ -19,9 +20,15 @@ macro_rules! lines {
     }};
 }
 
+/// The lines of these constants.
+macro_rules! sizes {
+    ($($name:ident)*) => { vec![$(format!("{} {}", stringify!($name), $name)),*] };
+}
+
 #[test]
 fn rust_lays_out_every_struct_as_c_does() {
     let lines = [
+        sizes!(VERSION RECORD ENTRY IMAGE LONGEST_LIST NO_PLACE),
         lines!(Code { columns, k, r } of Code { columns: [0; 64], k: 0, r: 0 }),
         lines!(CheckBits { number, bits } of Default::default()),
         lines!(Judgement { number, told } of Default::default()),

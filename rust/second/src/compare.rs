@@ -23,19 +23,6 @@ impl Amounts {
     /// The amounts of the gate.
     pub const GATE: Amounts =
         Amounts { seed: 1, codes: 20_000, words: 200_000, lists: 20_000, cards: 5_000, images: 2_000, inputs: 200 };
-
-    /// So many times as many cases.
-    pub fn times(self, times: usize) -> Amounts {
-        Amounts {
-            seed: self.seed,
-            codes: self.codes * times,
-            words: self.words * times,
-            lists: self.lists * times,
-            cards: self.cards * times,
-            images: self.images * times,
-            inputs: self.inputs * times,
-        }
-    }
 }
 
 /// What was asked of one question: how often, the numbers that were answered, the time of each desk.

@@ -4,7 +4,8 @@
 //! explanations and cards flip places and ask that again. No syndrome is formed, and nothing is shared with the desk.
 //!
 //! The questions are [`wanted`], [`judge`], [`row_balance`], [`write`], [`read`], [`explain`], [`card_check`], [`pass`]
-//! and the program [`mend`]. [`Desk`] gathers them, [`Cases`] makes cases from a seed, [`compare`] asks several desks.
+//! and the program [`mend`]. [`Desk`] gathers them, [`Cases`] makes cases from a seed, [`compare`] asks several desks, and
+//! [`worked`] asks a desk document 01's own cases.
 
 mod answers;
 mod cards;
@@ -17,6 +18,7 @@ mod pass;
 mod program;
 mod random;
 mod word;
+mod worked;
 
 pub use answers::{Balanced, CardsChecked, Explained, Judged, Passed, Reading, Refusal, Wanted, Written};
 pub use cards::card_check;
@@ -29,3 +31,4 @@ pub use pass::{counted, pass};
 pub use program::{mend, run, sample_code};
 pub use random::Random;
 pub use word::{read, write};
+pub use worked::worked;

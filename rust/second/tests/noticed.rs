@@ -228,3 +228,12 @@ fn every_fault_of_a_pass_is_noticed() {
     noticed(&[WholeImageIsMended, NumbersFromTheRun, NothingIsMended, StrayIsNotCounted], "pass", amounts);
     noticed(&[NoLastLineEnd, RefusedPrintsTally], "mend", amounts);
 }
+
+#[test]
+fn the_worked_cases_notice_every_easy_way_to_go_wrong_and_every_byte() {
+    let ways = [EvenIsMended, OddIsMended, ChecksAreNotCompared, CheckBitsStayUnmended, PairsComeTwice];
+    let bytes = [RefusedListIsWritten, ListTailIsCleared, RefusedPassIsNoted, NothingIsMended];
+    for fault in ways.into_iter().chain(bytes) {
+        assert!(!worked(&Sloppy(fault)).is_empty(), "{:?}", fault);
+    }
+}

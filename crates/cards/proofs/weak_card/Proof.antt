@@ -38,7 +38,9 @@ returns : tie.Need-returns
 unfolding tryCard
 returns c =
     let a = c .before .before .before .before .before .args in
-    c .weak-mask-in .ensures ∙ ap (λ (l : List ℕ). weakMaskIn (a .columns .now) l (a .first + a .t)) (card-short (a .b) (a .part .now) (a .t) (length (a .part .now) - a .t * a .b) (omega arith) (omega arith))
+    c .weak-mask-in .ensures
+    ∙ ap (λ (l : List ℕ). weakMaskIn (a .columns .now) l (a .first + a .t))
+    (card-short (a .b) (a .part .now) (a .t) (length (a .part .now) - a .t * a .b) (omega arith) (omega arith))
 
 add-weak-mask-in-2 : tie.Need-add-weak-mask-in-2
 add-weak-mask-in-2 c = search needs
@@ -66,7 +68,8 @@ unfolding tryCard
 returns-2 c =
     let a = c .before .before .before .before .before .args in
     let e : a .t * a .b + a .b - a .t * a .b ≡ a .b = omega arith in
-    c .weak-mask-in2 .ensures ∙ ap (λ (n : ℕ). weakMaskIn (a .columns .now) (take n (drop (a .t * a .b) (a .part .now))) (a .first + a .t)) e
+    c .weak-mask-in2 .ensures
+    ∙ ap (λ (n : ℕ). weakMaskIn (a .columns .now) (take n (drop (a .t * a .b) (a .part .now))) (a .first + a .t)) e
 
 pub weak-card-spec : {M : Type 1} → statement M
 weak-card-spec =

@@ -1,4 +1,5 @@
--- `cards::weak_card_in` meets its contract. The invariant: the first find among the cards not yet tried is the first among all. Assumes nothing.
+-- `cards::weak_card_in` meets its contract. The invariant: the first find among the cards not yet tried is the first among all.
+-- Assumes nothing.
 use mathlib.Core.Path.{_≡_}
 use Prim.Native.Nat.{_-_, _≤_, zero-le}
 use native.Mathlib.Nat.{mul-le-mul-left, sub-zero}
@@ -52,8 +53,10 @@ loop-less c = search needs
 
 loop-again : tie.Need-loop-again Inv-loop μ-loop
 loop-again c =
-    let at = c .before .before .before .before in
-    (omega arith, first-next _ _ (at .loop .t) _ (at .loop .inv .1) _ (omega arith) (c .before .before .weak-card .ensures) (c .enum-told .given .1))
+    let at = c .before .before .before .before in (
+      omega arith,
+      first-next _ _ (at .loop .t) _ (at .loop .inv .1) _ (omega arith) (c .before .before .weak-card .ensures) (c .enum-told .given .1),
+    )
 
 returns-2 : tie.Need-returns-2 Inv-loop μ-loop
 returns-2 c = first-end _ _ (c .before .loop .t) _ (c .before .loop .inv .1) (omega arith)

@@ -1,4 +1,5 @@
--- `cards::weak_mask_in` meets its contract. The invariant: the first find among the masks not yet tried is the first among all. Assumes nothing.
+-- `cards::weak_mask_in` meets its contract. The invariant: the first find among the masks not yet tried is the first among all.
+-- Assumes nothing.
 use mathlib.Core.Path.{_≡_, refl, sym, _∙_}
 use Prim.Native.Nat.{_-_, _*_, _%_, _^_, _≤_, zero-le}
 use native.Mathlib.Nat.{one-mul, sub-zero}

@@ -1,46 +1,33 @@
--- `desk::desk_explain` meets its contract: each field is the value of the answer below it. Assumes nothing.
-use mathlib.Core.Path.{ap, _∙_}
+-- `desk::desk_explain` meets its contract: an opening, whose columns are sound, and the question. Assumes nothing.
+use mathlib.Core.Path.{_≡_, sym, ap, subst, _∙_}
+use lib.ListN.{length}
+use Rattle.code.specs.Opened.{SoundOpened}
+use Rattle.sound.proofs.Hsiao.{sound-code}
+use Rattle.explain.specs.Explanations.{explainOf}
+use Rattle.desk.specs.Answers.{wordWith}
 use borrow.Author.Needs.{needs}
-use Rattle.explain.specs.Explanations.{numberOf, toldOf, lengthOf}
 use Rattle.desk.proofs.desk_explain.Statement.{statement}
 use Rattle.desk.proofs.desk_explain.Tie as tie
 
+open-code-requires : tie.Need-open-code-requires
+open-code-requires c κs = search needs
+
 explain-requires : tie.Need-explain-requires
-explain-requires c κs = search needs
-
-number-of-requires : tie.Need-number-of-requires
-number-of-requires c κs = search needs
-
-told-of-requires : tie.Need-told-of-requires
-told-of-requires c κs = search needs
-
-length-of-requires : tie.Need-length-of-requires
-length-of-requires c κs = search needs
+explain-requires c κs =
+    let a = c .before .before .before .args in
+    let h : length (a .code .columns) ≡ 64 = search needs in
+    let opened = c .before .open-code .ensures in
+    (opened .1 .0, subst SoundOpened (sym (opened .0)) (sound-code (a .code) h))
 
 same-length : tie.Need-same-length
 same-length c = search needs
 
 returns : tie.Need-returns
 returns c =
-    let t = c .before in
-    let n = t .before in
-    let x = n .before .before .before in
-    let e = x .explain .ensures .0 in (
-      λ i. record {
-        number = (n .number-of .ensures ∙ ap numberOf e) i;
-        told = (t .told-of .ensures ∙ ap toldOf e) i;
-        length = (c .length-of .ensures ∙ ap lengthOf e) i;
-      },
-      x .explain .ensures .1,
-    )
+    let x = c .before .before in
+    let a = x .before .before .before .before .args in
+    let e = ap (λ o. explainOf o (wordWith (a .«data») (a .check)) (a .limit) (a .list .now)) (x .before .before .open-code .ensures .0) in
+    (x .explain .ensures .0 ∙ ap (λ y. y .answer) e, x .explain .ensures .1 ∙ ap (λ y. y .list) e)
 
 pub desk-explain-spec : {M : Type 1} → statement M
-desk-explain-spec =
-    tie.close
-    (tie.spec
-    explain-requires
-    number-of-requires
-    told-of-requires
-    length-of-requires
-    same-length
-    returns)
+desk-explain-spec = tie.close (tie.spec open-code-requires explain-requires same-length returns)

@@ -1,21 +1,16 @@
--- `desk::desk_pass` meets its contract: each field is the value of the answer below it. Assumes nothing.
+-- `desk::desk_pass` meets its contract: an opening, and the question. Assumes nothing.
 use mathlib.Core.Path.{ap, _∙_}
+use Rattle.record.specs.Layout.{dataSize}
+use Rattle.pass.specs.Pass.{After, afterPass}
 use borrow.Author.Needs.{needs}
-use Rattle.pass.specs.Pass.{numberOf, toldOf, tallyIn}
 use Rattle.desk.proofs.desk_pass.Statement.{statement}
 use Rattle.desk.proofs.desk_pass.Tie as tie
 
+open-code-requires : tie.Need-open-code-requires
+open-code-requires c κs = search needs
+
 pass-requires : tie.Need-pass-requires
 pass-requires c κs = search needs
-
-number-of-requires : tie.Need-number-of-requires
-number-of-requires c κs = search needs
-
-told-of-requires : tie.Need-told-of-requires
-told-of-requires c κs = search needs
-
-tally-of-requires : tie.Need-tally-of-requires
-tally-of-requires c κs = search needs
 
 same-length : tie.Need-same-length
 same-length c = search needs
@@ -25,26 +20,13 @@ same-length-2 c = search needs
 
 returns : tie.Need-returns
 returns c =
-    let t = c .before in
-    let n = t .before in
-    let p = n .before .before .before .before .before in
-    let e = p .pass .ensures .0 in (
-      λ i. record {
-        number = (n .number-of .ensures ∙ ap numberOf e) i;
-        told = (t .told-of .ensures ∙ ap toldOf e) i;
-        tally = (c .tally-of .ensures ∙ ap tallyIn e) i;
-      },
-      p .pass .ensures .1,
-    )
+    let x = c .before .before .before .before in
+    let opened = x .before .before .before in
+    let a = opened .before .before .before .args in
+    let e = ap (λ o. afterPass o dataSize (a .image .now) (a .start) (a .end) (a .journal .now)) (opened .open-code .ensures .0) in
+    let p = x .pass .ensures in
+    (p .0 ∙ ap (λ (y : After). y .answer) e, (p .1 .0 ∙ ap (λ (y : After). y .image) e, p .1 .1 ∙ ap (λ (y : After). y .journal) e))
 
 pub desk-pass-spec : {M : Type 1} → statement M
 desk-pass-spec =
-    tie.close
-    (tie.spec
-    pass-requires
-    number-of-requires
-    told-of-requires
-    tally-of-requires
-    same-length
-    same-length-2
-    returns)
+    tie.close (tie.spec open-code-requires pass-requires same-length same-length-2 returns)

@@ -1,119 +1,148 @@
--- `explain::explain` meets its contract: the list by syndrome that was put is the list of explanations. Assumes nothing.
+-- `explain::explain` meets its contract: how the code stands decides, then the tests; the list by syndrome that was put is the list of
+-- explanations. Assumes nothing.
 use mathlib.Core.Path.{_≡_, refl, sym, ap, _∙_}
-use mathlib.Core.Bool.{true≢false}
-use Prim.Native.Nat.{_+_}
+use mathlib.Core.Bool.{false}
+use Prim.Native.Nat.{ℕ, _≤_}
 use native.Mathlib.Omega.{arith}
 use borrow.Author.Needs.{needs}
-use lib.ListN.{length, take}
-use Rattle.code.specs.Judge.{accepted}
-use Rattle.code.proofs.Steps.{refused}
-use Rattle.code.proofs.Ready.{Ready, ready}
-use Rattle.explain.specs.declared.Explained.the-variants.{Refused, Stray, OverLimit}
-use Rattle.explain.specs.BySyndrome.{bySyndrome}
-use Rattle.explain.specs.Explanations.{explanationsOf, Heard}
-use Rattle.explain.proofs.Explanations.{as-put}
-use Rattle.explain.proofs.Answers.{stray-row, heard, claims, claims-no-room, claims-listed}
+use lib.ListN.{length}
+use Rattle.code.specs.Opened.{columnsOf}
+use Rattle.word.specs.Word.{strayIn}
+use Rattle.word.proofs.Strays.{data-fits}
+use Rattle.listing.specs.BySyndrome.{bySyndrome}
+use Rattle.mending.proofs.Strays.{stray-bit, check-fits}
+use Rattle.explain.proofs.BySyndrome.{by-syndrome-parts}
+use Rattle.explain.proofs.Answers.{setsOf, length-columns, answer-refused, answer-stray, answer-limit, put-no-room, put-done, claims}
 use Rattle.explain.proofs.explain.Statement.{statement}
 use Rattle.explain.proofs.explain.Tie as tie
 
--- past the `let .. else`
-places : (c : tie.After-enum-told) → length (c .before .before .before .before .args .code .columns) ≡ 64
+-- past the test of how the code stands: its n columns are there
+abbrev asked : tie.After-enum-told → tie.Start
+asked c = c .before .before .before
+
+places : (c : tie.After-enum-told) → length (asked c .args .opened .columns) ≡ 144
 places c = search needs
 
-is-ready : (c : tie.After-enum-told) → Ready (c .before .before .before .before .args .code) (c .before .before .open-code .result .columns)
-is-ready c =
-    let o = c .before .before in
-    ready (o .before .before .args .code) (places c) (o .open-code .result) (o .open-code .ensures) (c .enum-told .given .1)
+room : (c : tie.After-enum-told) → asked c .args .opened .n ≤ length (asked c .args .opened .columns)
+room c = let l = asked c .pre .0 in omega (arith, places c, l .checks, l .data-most)
+
+long : (c : tie.After-enum-told) → length (columnsOf (asked c .args .opened)) ≡ asked c .args .opened .n
+long c = length-columns (asked c .args .opened) (asked c .pre .0) (places c)
 
 -- past the test for stray bits
-is-heard : (c : tie.Else1) → let a = c .before .before .before .before .before .before .before .args in Heard (a .code) (a .word .«data») (a .word .check)
-is-heard c =
-    let t = c .before .before .before in
-    let a = t .before .before .before .before .args in
-    heard (a .code) (a .word .«data») (a .word .check) (is-ready t .verdict) (sym (c .before .stray-in .ensures) ∙ c .if1 .left)
+whole : (c : tie.Else1) → let a = asked (c .before .before) .args in strayIn (a .opened .n) (a .opened .k) (a .word) ≡ false
+whole c = sym (c .before .stray-in .ensures) ∙ c .if1 .left
 
--- the list that was put is that of the explanations
-found : (c : tie.After-put-list)
-    → let u = c .before .before .before in
-    let o = u .before .before .before .before .before .before .before .before .before in
-    let a = o .before .before .args in
-    explanationsOf (a .code) (a .word .«data») (a .word .check) (a .limit)
-    ≡ bySyndrome (take (a .code .k + a .code .r) (o .open-code .result .columns)) (u .syndrome-in .result) (a .limit)
+whole-columns : (c : tie.Else1)
+    → let a = asked (c .before .before) .args in strayIn (length (columnsOf (a .opened))) (a .opened .k) (a .word) ≡ false
+whole-columns c =
+    let a = asked (c .before .before) .args in
+    ap (λ (n : ℕ). strayIn n (a .opened .k) (a .word)) (long (c .before .before)) ∙ whole c
+
+-- the list by the syndrome is that of the explanations
+found : (c : tie.After-syndrome-in)
+    → let a = asked (c .before .before .before .before .before .before) .args in
+    setsOf (a .opened) (a .word) (a .limit) ≡ bySyndrome (columnsOf (a .opened)) (c .syndrome-in .result) (a .limit)
 found c =
-    let u = c .before .before .before in
-    let e = u .before .before .before in
-    let h = is-heard (e .before) in
-    let t = e .before .before .before .before in
-    let o = t .before .before in
-    let a = o .before .before .args in
-    as-put (a .code) (record { places = places t; verdict = h .verdict }) (a .word .«data») (a .word .check) (a .limit) (h .data-fits) (h .check-fits) (e .if2 .left)
-    (take (a .code .k + a .code .r) (o .open-code .result .columns)) (u .syndrome-in .result) (is-ready t .laid) (u .syndrome-in .ensures)
+    let e = c .before .before .before in
+    let t = e .before .before .before in
+    let a = asked t .args in
+    let s = c .syndrome-in in
+    let sound = asked t .pre .1 (t .enum-told .given .1) in
+    by-syndrome-parts (a .opened .rows) sound (a .word) (a .limit) (s .result) (whole-columns (e .before)) (e .if2 .left) (s .ensures)
 
-open-code-requires : tie.Need-open-code-requires
-open-code-requires c κs = search needs
+enum-known-standing : tie.Need-enum-known-standing
+enum-known-standing c = search needs
+
+refused-listing-requires : tie.Need-refused-listing-requires
+refused-listing-requires c κs = search needs
+
+returns : tie.Need-returns
+returns c =
+    let a = c .before .before .before .before .before .args in
+    claims _
+    (answer-refused (a .opened) (a .word) (a .limit) (a .list .now) _ (c .before .before .standing .given .1))
+    (c .refused-listing .ensures)
 
 enum-told : tie.Need-enum-told
 enum-told c = search needs
 
-returns : tie.Need-returns
-returns c =
-    let o = c .before in
-    let a = o .before .before .args in
-    let v = o .open-code .result .verdict in
-    claims (a .code) (a .word .«data») (a .word .check) (a .limit) (a .list .now) (a .list .now) (Refused v)
-    (sym (ap (λ x. x .verdict) (o .open-code .ensures)), λ e. true≢false (sym (ap accepted e) ∙ refused v (c .match .keys2)))
-    refl
-
-add-n : tie.Need-add-n
-add-n c = omega (arith, is-ready (c .before) .few)
-
 stray-in-requires : tie.Need-stray-in-requires
-stray-in-requires c κs = search needs
+stray-in-requires c κs = asked c .pre .0 .parts
+
+refused-listing-requires-2 : tie.Need-refused-listing-requires-2
+refused-listing-requires-2 c κs = search needs
 
 returns-2 : tie.Need-returns-2
 returns-2 c =
-    let t = c .before .before .before in
-    let a = t .before .before .before .before .args in
-    claims (a .code) (a .word .«data») (a .word .check) (a .limit) (a .list .now) (a .list .now) Stray
-    (is-ready t .verdict, stray-row (a .code) (a .word .«data») (a .word .check) (sym (c .before .stray-in .ensures) ∙ c .if1 .taken))
-    refl
+    let s = c .before .before in
+    let t = s .before in
+    let a = asked t .args in
+    let o = a .opened in
+    claims _
+    (answer-stray o (a .word) (a .limit) (a .list .now) (t .enum-told .given .1) (long t)
+    (stray-bit (o .n) (o .k) (a .word) (sym (s .stray-in .ensures) ∙ c .before .if1 .taken)))
+    (c .refused-listing2 .ensures)
+
+refused-listing-requires-3 : tie.Need-refused-listing-requires-3
+refused-listing-requires-3 c κs = search needs
 
 returns-3 : tie.Need-returns-3
 returns-3 c =
-    let a = c .before .before .before .before .before .before .before .before .args in
-    claims (a .code) (a .word .«data») (a .word .check) (a .limit) (a .list .now) (a .list .now) OverLimit (is-heard (c .before), c .if2 .taken) refl
+    let e = c .before .before in
+    let t = e .before .before in
+    let a = asked t .args in
+    let o = a .opened in
+    claims _
+    (answer-limit o (a .word) (a .limit) (a .list .now) (t .enum-told .given .1) (long t) (data-fits (o .n) (o .k) (a .word) (whole e))
+    (check-fits (o .n) (o .k) (a .word) (whole e)) (c .before .if2 .taken))
+    (c .refused-listing3 .ensures)
 
 array-share-prefix-columns : tie.Need-array-share-prefix-columns
-array-share-prefix-columns c = is-ready (c .before .before .before .before .before) .room
+array-share-prefix-columns c = room (c .before .before .before .before)
 
 slice-aggregate-syndrome-in : tie.Need-slice-aggregate-syndrome-in
-slice-aggregate-syndrome-in c = is-ready (c .before .before .before .before .before .before) .part
+slice-aggregate-syndrome-in c = sym (long (c .before .before .before .before .before))
 
 syndrome-in-requires : tie.Need-syndrome-in-requires
 syndrome-in-requires c κs =
-    omega (arith, is-ready (c .before .before .before .before .before .before) .part)
+    let e = c .before .before .before in
+    let t = e .before .before in
+    (omega (arith, long t, asked t .pre .0 .parts), whole-columns e)
 
 array-share-prefix-columns-2 : tie.Need-array-share-prefix-columns-2
-array-share-prefix-columns-2 c = is-ready (c .before .before .before .before .before .before .before) .room
+array-share-prefix-columns-2 c = room (c .before .before .before .before .before .before)
 
 slice-aggregate-put-list : tie.Need-slice-aggregate-put-list
-slice-aggregate-put-list c = is-ready (c .before .before .before .before .before .before .before .before) .part
+slice-aggregate-put-list c = sym (long (c .before .before .before .before .before .before .before))
 
 put-list-requires : tie.Need-put-list-requires
 put-list-requires c κs =
-    let t = is-ready (c .before .before .before .before .before .before .before .before .before) in
-    omega (arith, t .few, t .part)
+    let t = c .before .before .before .before .before .before .before .before in
+    let l = asked t .pre .0 in
+    omega (arith, long t, l .checks, l .data-most)
+
+refused-listing-requires-4 : tie.Need-refused-listing-requires-4
+refused-listing-requires-4 c κs = search needs
 
 same-length : tie.Need-same-length
 same-length c = search needs
 
 returns-4 : tie.Need-returns-4
 returns-4 c =
-    let w = c .before .before .before in
-    let e = w .before .before .before .before .before .before in
-    let a = e .before .before .before .before .before .before .before .before .args in
-    claims-no-room (a .code) (a .word .«data») (a .word .check) (a .limit) (a .list .now) (w .put-list .last .1 .1 .1 .0) (is-heard (e .before)) (e .if2 .left) _
-    (w .put-list .result) (found w) (w .put-list .ensures .0) (w .put-list .ensures .1) (omega (arith, c .if3))
+    let w = c .before .before .before .before in
+    let y = w .before .before .before in
+    let e = y .before .before .before in
+    let t = e .before .before .before in
+    let a = asked t .args in
+    let o = a .opened in
+    let v = whole (e .before) in
+    let p = w .put-list in
+    claims _
+    (put-no-room o (a .word) (a .limit) (a .list .now) (t .enum-told .given .1) (long t) (data-fits (o .n) (o .k) (a .word) v)
+    (check-fits (o .n) (o .k) (a .word) v) (e .if2 .left) _ (p .result) _ (found y) (p .ensures .0) (p .ensures .1)
+    (omega (arith, c .before .if3)))
+    (c .refused-listing4 .ensures)
 
 same-length-2 : tie.Need-same-length-2
 same-length-2 c = search needs
@@ -121,21 +150,30 @@ same-length-2 c = search needs
 returns-5 : tie.Need-returns-5
 returns-5 c =
     let w = c .before .before .before in
-    let e = w .before .before .before .before .before .before in
-    let a = e .before .before .before .before .before .before .before .before .args in
-    claims-listed (a .code) (a .word .«data») (a .word .check) (a .limit) (a .list .now) (w .put-list .last .1 .1 .1 .0) (is-heard (e .before)) (e .if2 .left) _
-    (w .put-list .result) (found w) (w .put-list .ensures .0) (w .put-list .ensures .1) (omega (arith, c .if3))
+    let y = w .before .before .before in
+    let e = y .before .before .before in
+    let t = e .before .before .before in
+    let a = asked t .args in
+    let o = a .opened in
+    let v = whole (e .before) in
+    let p = w .put-list in
+    claims _
+    (put-done o (a .word) (a .limit) (a .list .now) (t .enum-told .given .1) (long t) (data-fits (o .n) (o .k) (a .word) v)
+    (check-fits (o .n) (o .k) (a .word) v) (e .if2 .left) _ (p .result) _ (found y) (p .ensures .0) (p .ensures .1) (omega (arith, c .if3)))
+    refl
 
 pub explain-spec : {M : Type 1} → statement M
 explain-spec =
     tie.close
     (tie.spec
-    open-code-requires
-    enum-told
+    enum-known-standing
+    refused-listing-requires
     returns
-    add-n
+    enum-told
     stray-in-requires
+    refused-listing-requires-2
     returns-2
+    refused-listing-requires-3
     returns-3
     array-share-prefix-columns
     slice-aggregate-syndrome-in
@@ -143,6 +181,7 @@ explain-spec =
     array-share-prefix-columns-2
     slice-aggregate-put-list
     put-list-requires
+    refused-listing-requires-4
     same-length
     returns-4
     same-length-2

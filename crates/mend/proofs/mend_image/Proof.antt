@@ -3,15 +3,27 @@ use mathlib.Core.Path.{_≡_, ap, _∙_}
 use Prim.Native.Nat.{_%_}
 use native.Mathlib.Omega.{arith}
 use lib.ListN.{length, replicate}
-use Rattle.record.specs.Layout.{recordSize}
-use Rattle.pass.specs.Says.{Image}
+use Rattle.record.specs.Layout.{dataSize, recordSize}
+use Rattle.code.specs.declared.Opened.{Opened}
+use Rattle.code.specs.Opened.{openedOf}
+use Rattle.code.specs.Sample.{sampleCode}
+use Rattle.pass.specs.Asked.{Image}
 use Rattle.mend.proofs.Runs.{taken-image, refused-by-12}
 use borrow.Author.Needs.{needs}
 use Rattle.mend.proofs.mend_image.Statement.{statement}
 use Rattle.mend.proofs.mend_image.Tie as tie
 
+-- the code that is opened
+opened-sample : (c : tie.After-pass) → c .before .before .before .open-code .result ≡ openedOf sampleCode
+opened-sample c =
+    let o = c .before .before .before in
+    o .open-code .ensures .0 ∙ ap openedOf (o .before .sample-code .ensures)
+
 sample-code-requires : tie.Need-sample-code-requires
 sample-code-requires c κs = search needs
+
+open-code-requires : tie.Need-open-code-requires
+open-code-requires c κs = search needs
 
 slice-aggregate-pass : tie.Need-slice-aggregate-pass
 slice-aggregate-pass c = search needs
@@ -19,18 +31,13 @@ slice-aggregate-pass c = search needs
 pass-requires : tie.Need-pass-requires
 pass-requires c κs = search needs
 
-enum-told : tie.Need-enum-told
-enum-told c = search needs
-
-number-of-requires : tie.Need-number-of-requires
-number-of-requires c κs = search needs
-
 print-refusal-requires : tie.Need-print-refusal-requires
 print-refusal-requires c κs =
-    let p = c .before .before .before .before .before in
-    let image = c .before .before .before .before .before .before .before .before .before .before .args .image .now in
-    c .number-of .ensures ∙ refused-by-12 (p .before .before .before .sample-code .result) image (replicate 65520 0) (p .pass .result) (p .before .before .before .sample-code .ensures)
-    (p .pass .ensures .0) (c .before .match .keys2)
+    let p = c .before .before .before .before in
+    let image = p .before .before .before .before .before .before .args .image .now in
+    refused-by-12 (p .before .before .before .open-code .result) image (replicate 65520 0)
+    (p .pass .result) (opened-sample p) (p .pass .ensures .0)
+    (c .if1 .taken)
 
 same-length : tie.Need-same-length
 same-length c = search needs
@@ -46,13 +53,16 @@ slice-aggregate-mend-runs-2 c = search needs
 
 mend-runs-requires : tie.Need-mend-runs-requires
 mend-runs-requires c κs =
-    let told = c .before .before .before .enum-told .given in
-    let p = c .before .before .before .before .before .before .before .before in
-    let image = c .before .before .before .before .before .before .before .before .before .before .before .before .before .args .image .now in
-    let i : Image image = taken-image (p .before .before .before .sample-code .result) image (replicate 65520 0) (p .pass .result) (told .0 .0) (p .pass .ensures .0) (told .1) in
-    let l : length (p .pass .last .1 .0) ≡ length image = search needs in
-    let j : length (p .pass .last .1 .1 .1 .1 .0) ≡ 65520 = search needs in
-    (record { whole = ap (λ n. n % recordSize) l ∙ i .whole; short = omega (arith, i .short) }, (omega arith, search needs))
+    let e = c .before .before .before in
+    let p = e .before .before .before .before in
+    let image = p .before .before .before .before .before .before .args .image .now in
+    let i : Image dataSize image =
+    taken-image (p .before .before .before .open-code .result) image (replicate 65520 0)
+    (p .pass .result) (opened-sample p) (p .pass .ensures .0)
+    (omega arith) in
+    let l : length (p .pass .last .1 .1 .0) ≡ length image = search needs in
+    let j : length (p .pass .last .1 .1 .1 .1 .1 .0) ≡ 65520 = search needs in
+    (record { whole = ap (λ n. n % recordSize dataSize) l ∙ i .whole; short = omega (arith, i .short) }, (omega arith, search needs))
 
 print-tally-requires : tie.Need-print-tally-requires
 print-tally-requires c κs = search needs
@@ -68,10 +78,9 @@ mend-image-spec =
     tie.close
     (tie.spec
     sample-code-requires
+    open-code-requires
     slice-aggregate-pass
     pass-requires
-    enum-told
-    number-of-requires
     print-refusal-requires
     same-length
     returns

@@ -1,91 +1,90 @@
 -- `mend::mend_run` meets its contract: the pass is done, and the lines are those of the entries that it wrote. Assumes nothing.
 use mathlib.Core.Path.{_≡_, sym, ap, _∙_}
-use mathlib.Core.List.{List, [], _∷_}
-use Prim.Native.Nat.{ℕ, _*_, _≤_}
+use mathlib.Core.List.{List}
+use Prim.Native.Nat.{ℕ, _*_, _/_, _≤_}
 use native.Mathlib.Omega.{arith}
-use types.Run.{miss}
 use lib.ListN.{length, take, length-take}
 use lib.Seq.{length-take-le}
-use Rattle.record.specs.Layout.{entrySize}
+use Rattle.record.specs.declared.Tally.{Tally}
+use Rattle.record.specs.Layout.{dataSize, entrySize}
 use Rattle.record.specs.Run.{over}
-use Rattle.code.specs.Rule.{matrixOf}
-use Rattle.pass.specs.declared.Passed.the-variants.{Done}
-use Rattle.pass.specs.Pass.{entriesRun, tallyIn}
+use Rattle.code.specs.Opened.{openedOf}
+use Rattle.pass.specs.Pass.{entriesRun}
 use Rattle.report.specs.Text.{journalText}
 use Rattle.report.specs.Totals.{entriesIn}
-use Rattle.mend.specs.Mend.{sampleCode, runTally, runLeft}
-use Rattle.mend.proofs.Runs.{outcome, few-entries, run-text}
+use Rattle.mend.specs.Mend.{sampleReader, runTally, runLeft, Ready}
+use Rattle.mend.proofs.Runs.{outcome, few-entries, few-records, run-text}
 use borrow.Author.Needs.{needs}
 use Rattle.mend.proofs.mend_run.Statement.{statement}
 use Rattle.mend.proofs.mend_run.Tie as tie
 
+-- where it began, and the pass and the tally, seen from behind the counting of entries
+abbrev begun : tie.After-pass → tie.Start
+begun c = c .before .before .before .before .before .before .before .before
+
+abbrev pass-of : tie.After-entries-in → tie.After-pass
+pass-of c = c .before .before .before .before .before .before
+
 -- what the pass answered, and left behind
-passed : (c : tie.After-pass) → let a = c .before .before .before .before .before .before .before .args in
-    (c .pass .result ≡ Done (runTally (a .image .now) (a .start) (a .end)))
-    × (c .pass .last .1 .0 ≡ runLeft (a .image .now) (a .start) (a .end))
-    × (c .pass .last .1 .1 .1 .1 .0 ≡ over (entriesRun (matrixOf sampleCode) (sampleCode .k) (a .image .now) (a .start) (a .end)) (a .journal .now))
+passed : (c : tie.After-pass) → let a = begun c .args in
+    (c .pass .result .tally ≡ runTally (a .image .now) (a .start) (a .end))
+    × (c .pass .last .1 .1 .0 ≡ runLeft (a .image .now) (a .start) (a .end))
+    × (c .pass .last .1 .1 .1 .1 .1 .0 ≡ over (entriesRun sampleReader (a .image .now) (a .start) (a .end)) (a .journal .now))
 passed c =
-    let s = c .before .before .before .before .before .before .before in
+    let s = begun c in
     let a = s .args in
-    outcome (a .image .now) (a .start) (a .end) (a .journal .now) (a .lines .now) (s .pre) (c .before .before .before .sample-code .result)
-    (c .pass .result) (c .pass .last .1 .0) (c .pass .last .1 .1 .1 .1 .0) (c .before .before .before .sample-code .ensures) (c .pass .ensures)
+    let opened = c .before .before .before in
+    outcome (a .image .now) (a .start) (a .end) (a .journal .now) (a .lines .now) (s .pre) (opened .open-code .result) (c .pass .result)
+    (c .pass .last .1 .1 .0) (c .pass .last .1 .1 .1 .1 .1 .0)
+    (opened .open-code .ensures .0 ∙ ap openedOf (opened .before .sample-code .ensures)) (c .pass .ensures)
 
-tallied : (c : tie.After-answer) → let a = c .before .before .before .before .before .before .before .before .before .before .before .before .before .args in c .answer .given .0 .0 ≡ runTally (a .image .now) (a .start) (a .end)
-tallied c = ap tallyIn (sym (c .answer .given .1) ∙ passed (c .before .before .before .before .before .before) .0)
-
-few : (c : tie.After-answer) → let t = c .answer .given .0 .0 in entrySize * entriesIn t ≤ length (c .before .before .before .before .before .before .pass .last .1 .1 .1 .1 .0)
+-- the entries that it wrote are no more than the journal has room for
+few : (c : tie.After-entries-in) → let s = begun (pass-of c) in
+    (entrySize dataSize * c .entries-in .result ≤ length (pass-of c .pass .last .1 .1 .1 .1 .1 .0))
+    × (c .entries-in .result ≤ length (s .args .journal .now) / entrySize dataSize)
 few c =
-    let s = c .before .before .before .before .before .before .before .before .before .before .before .before .before in
+    let p = pass-of c in
+    let s = begun p in
     let a = s .args in
-    omega (arith, few-entries (a .image .now) (a .start) (a .end) (a .journal .now) (a .lines .now) (s .pre) (c .answer .given .0 .0) (tallied c))
+    let l : length (p .pass .last .1 .1 .1 .1 .1 .0) ≡ length (a .journal .now) = search needs in
+    let n = c .entries-in .ensures in
+    let f = few-entries (a .image .now) (a .start) (a .end) (a .journal .now) (a .lines .now)
+    (s .pre) (p .pass .result .tally) (passed p .0) in
+    (omega arith, omega arith)
 
 sample-code-requires : tie.Need-sample-code-requires
 sample-code-requires c κs = search needs
 
+open-code-requires : tie.Need-open-code-requires
+open-code-requires c κs = search needs
+
 pass-requires : tie.Need-pass-requires
 pass-requires c κs = search needs
-
-enum-known-answer : tie.Need-enum-known-answer
-enum-known-answer c = search needs
-
-new-requires : tie.Need-new-requires
-new-requires c κs = search needs
-
-same-length : tie.Need-same-length
-same-length c = search needs
-
-same-length-2 : tie.Need-same-length-2
-same-length-2 c = search needs
-
-returns : tie.Need-returns
-returns c =
-    let k = rw (passed (c .before .before .before .before .before .before) .0) at (c .before .match .keys2) in
-    absurd (miss (0 ∷ 1 ∷ 2 ∷ 3 ∷ []) 4 tt k)
 
 entries-in-requires : tie.Need-entries-in-requires
 entries-in-requires c κs = search needs
 
 mul-used : tie.Need-mul-used
-mul-used c = search needs
+mul-used c =
+    let p = pass-of c in
+    let s = begun p in
+    let a = s .args in
+    let n = c .entries-in .ensures in
+    let f = few-records (a .image .now) (a .start) (a .end) (a .journal .now) (a .lines .now)
+    (s .pre) (p .pass .result .tally) (passed p .0) in
+    omega arith
 
 slice-reshare-prefix-journal-text : tie.Need-slice-reshare-prefix-journal-text
-slice-reshare-prefix-journal-text c = omega (arith, c .entries-in .ensures, few (c .before .before))
+slice-reshare-prefix-journal-text c = few c .0
 
 slice-aggregate-journal-text : tie.Need-slice-aggregate-journal-text
-slice-aggregate-journal-text c = sym (length-take-le (entrySize * c .before .entries-in .result) (c .before .before .before .before .before .before .before .before .before .pass .last .1 .1 .1 .1 .0) (omega (arith, c .before .entries-in .ensures, few (c .before .before .before))))
+slice-aggregate-journal-text c = sym (length-take-le _ _ (few (c .before) .0))
 
 journal-text-requires : tie.Need-journal-text-requires
 journal-text-requires c κs =
-    let s = c .before .before .before .before .before .before .before .before .before .before .before .before .before .before .before .before .before in
-    let a = s .args in
-    let e = c .before .before .before .before in
-    simp length-take
-    (omega (
-      arith,
-      s .pre .space,
-      c .before .before .entries-in .ensures,
-      few-entries (a .image .now) (a .start) (a .end) (a .journal .now) (a .lines .now) (s .pre) (e .answer .given .0 .0) (tallied e),
-    ))
+    let e = c .before .before in
+    let s = begun (pass-of e) in
+    simp length-take (omega (arith, s .pre .space, few e .1))
 
 slice-reshare-prefix-write-all : tie.Need-slice-reshare-prefix-write-all
 slice-reshare-prefix-write-all c = search needs
@@ -96,29 +95,32 @@ slice-aggregate-write-all c = search needs
 write-all-requires : tie.Need-write-all-requires
 write-all-requires c κs = search needs
 
+same-length : tie.Need-same-length
+same-length c = search needs
+
+same-length-2 : tie.Need-same-length-2
+same-length-2 c = search needs
+
 same-length-3 : tie.Need-same-length-3
 same-length-3 c = search needs
 
-same-length-4 : tie.Need-same-length-4
-same-length-4 c = search needs
-
-same-length-5 : tie.Need-same-length-5
-same-length-5 c = search needs
-
-returns-2 : tie.Need-returns-2
-returns-2 c =
-    let s = c .before .before .before .before .before .before .before .before .before .before .before .before .before .before .before .before .before .before .before .before .before .before in
+returns : tie.Need-returns
+returns c =
+    let t = c .before .before .before .before in
+    let e = t .before .before .before in
+    let p = pass-of e in
+    let s = begun p in
     let a = s .args in
-    let e = c .before .before .before .before .before .before .before .before .before in
-    let after = passed (e .before .before .before .before .before .before) in
-    let later = e .before .before .before .before .before .before .pass .last .1 .1 .1 .1 .0 in (
-      tallied e,
+    let after = passed p in
+    let later = p .pass .last .1 .1 .1 .1 .1 .0 in (
+      after .0,
       (
         after .1,
-        c .before .before .before .before .journal-text .ensures .1 .0
-            ∙ ap (λ (n : ℕ). over (journalText (take (entrySize * n) later)) (a .lines .now)) (c .before .before .before .before .before .before .before .entries-in .ensures)
+        t .journal-text .ensures .1 .0
+            ∙ ap (λ (n : ℕ). over (journalText (take (entrySize dataSize * n) later)) (a .lines .now)) (e .entries-in .ensures)
             ∙ ap (λ (l : List ℕ). over l (a .lines .now))
-            (run-text (a .image .now) (a .start) (a .end) (a .journal .now) (a .lines .now) (s .pre) (e .answer .given .0 .0) (tallied e) later (after .2)),
+            (run-text (a .image .now) (a .start) (a .end) (a .journal .now) (a .lines .now)
+            (s .pre) (p .pass .result .tally) (after .0) later (after .2)),
       ),
     )
 
@@ -127,12 +129,8 @@ mend-run-spec =
     tie.close
     (tie.spec
     sample-code-requires
+    open-code-requires
     pass-requires
-    enum-known-answer
-    new-requires
-    same-length
-    same-length-2
-    returns
     entries-in-requires
     mul-used
     slice-reshare-prefix-journal-text
@@ -141,7 +139,7 @@ mend-run-spec =
     slice-reshare-prefix-write-all
     slice-aggregate-write-all
     write-all-requires
+    same-length
+    same-length-2
     same-length-3
-    same-length-4
-    same-length-5
-    returns-2)
+    returns)

@@ -1,13 +1,13 @@
--- `mend::mend_runs` meets its contract. The invariant: the image is as a pass over the records below `start` leaves it, and the sums are the
--- tally of these records. Assumes nothing.
+-- `mend::mend_runs` meets its contract. The invariant: the image is as a pass over the records below `start` leaves it, and the sums are
+-- the tally of these records. Assumes nothing.
 use mathlib.Core.Path.{_≡_, refl, ap, ap₂, _∙_}
 use mathlib.Core.List.{List}
 use Prim.Native.Nat.{ℕ, _-_, _%_, _≤_}
 use native.Mathlib.Omega.{arith}
 use borrow.Author.Needs.{needs}
 use lib.ListN.{length}
-use Rattle.record.specs.Layout.{recordSize}
-use Rattle.pass.specs.Pass.{recordsIn}
+use Rattle.record.specs.Layout.{dataSize, recordSize}
+use Rattle.over_run.specs.Whole.{recordsIn}
 use Rattle.report.specs.Totals.{addedTo}
 use Rattle.mend.specs.Mend.{runTally, runLeft, asTotals}
 use Rattle.mend.proofs.Runs.{left-none, totals-none, totals-within, left-next, totals-next}
@@ -16,7 +16,8 @@ use Rattle.mend.proofs.mend_runs.Tie as tie
 
 abbrev Inv-loop : tie.InvT-loop
 Inv-loop image₀ journal₀ lines₀ records totals₀ start₀ image journal lines totals start =
-    (start ≤ records) × (records ≡ recordsIn image₀) × (image ≡ runLeft image₀ 0 start) × (totals ≡ asTotals (runTally image₀ 0 start))
+    (start ≤ records) × (records ≡ recordsIn dataSize image₀) × (image ≡ runLeft image₀ 0 start)
+    × (totals ≡ asTotals (runTally image₀ 0 start))
     × (length image ≡ length image₀) × (length journal ≡ length journal₀) × (length lines ≡ length lines₀)
 
 abbrev μ-loop : tie.MeasureT-loop
@@ -38,7 +39,11 @@ mend-run-requires c κs =
     let l = c .before .before .before .before .before in
     let s = l .before .before .before .before .before in
     record {
-      records = record { whole = ap (λ n. n % recordSize) (l .loop .inv .4) ∙ s .pre .0 .whole; short = omega (arith, s .pre .0 .short) };
+      records = record {
+        whole = ap (λ n. n % recordSize dataSize) (l .loop .inv .4)
+            ∙ s .pre .0 .whole;
+        short = omega (arith, s .pre .0 .short);
+      };
       run = record { rising = omega arith; within = omega arith };
       room = omega arith;
       space = omega arith;
@@ -61,8 +66,10 @@ loop-again c =
     let start = l .loop .start in
     let end = c .before .before .before .before .before .before .before .before .before .before .before .run-end .result in
     let ran = c .before .before .before .before .before .before .before .mend-run in
-    let up : start ≤ end = omega (arith, c .before .before .before .before .before .before .before .before .before .before .before .run-end .ensures) in
-    let within : end ≤ recordsIn image = omega (arith, c .before .before .before .before .before .before .before .before .before .before .before .run-end .ensures) in (
+    let up : start ≤ end = omega
+    (arith, c .before .before .before .before .before .before .before .before .before .before .before .run-end .ensures) in
+    let within : end ≤ recordsIn dataSize image =
+    omega (arith, c .before .before .before .before .before .before .before .before .before .before .before .run-end .ensures) in (
       omega (arith, c .before .before .before .before .before .before .before .before .before .before .before .run-end .ensures),
       l .loop .inv .1,
       ran .ensures .1 .0 ∙ ap (λ (m : List ℕ). runLeft m start end) (l .loop .inv .2) ∙ left-next image start end up within,
@@ -86,7 +93,7 @@ same-length-3 c = search needs
 returns : tie.Need-returns Inv-loop μ-loop
 returns c =
     let l = c .before in
-    let e : l .loop .start ≡ recordsIn (l .before .before .before .before .before .args .image .now) = omega arith in
+    let e : l .loop .start ≡ recordsIn dataSize (l .before .before .before .before .before .args .image .now) = omega arith in
     (rw e at (l .loop .inv .3), rw e at (l .loop .inv .2))
 
 pub mend-runs-spec : {M : Type 1} → statement M

@@ -1,0 +1,3 @@
+pub mod Mends
+pub mod Entered
+pub mod Outcomes

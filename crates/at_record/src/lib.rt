@@ -1,0 +1,68 @@
+// What a pass does at one record: the verdict on it, mending, and its entry.
+ghost use mathlib.Core.Path.{_≡_};
+ghost use lib.ListN.{length};
+ghost use Rattle.record.specs.Layout.{recordSize, entrySize, entryBytes};
+ghost use Rattle.word.specs.Places.{NamesPlace};
+ghost use Rattle.at_record.specs.Outcome.{reader, Held, Ready, seen, leftBy, entryBy};
+use record::CHECK;
+use record::HEAD;
+use word::Verdict;
+use word::Word;
+
+// The bytes of data in the low half of a word.
+const HALF: usize = 8;
+
+// The verdict on a record, under the n columns of a code with k data bits and a set of rows.
+pub fn look(columns: &[u16], k: usize, rows: u16, d: usize, rec: &[u8]) -> Verdict
+    requires { ⌜ Ready (reader (now columns) k rows d) ⌝ }
+    requires { ⌜ length (now rec) ≡ recordSize d ⌝ }
+    ensures { λ v. ⌜ v ≡ seen (reader (now (columns .entry)) k rows d) (now (rec .entry)) ⌝ }
+{
+    let end = d + CHECK;
+    let word = Word {
+        low: record::number(&rec[..HALF]),
+        high: record::number(&rec[HALF..d]),
+        check: record::check_number(&rec[d..end]),
+    };
+    word::read_in(columns, k, rows, word)
+}
+
+// A record is left as its verdict says: for verdicts 1 and 2 the bit of the place that they name is turned.
+fn mend(rec: &mut [u8], d: usize, k: usize, verdict: Verdict)
+    requires { ⌜ length (now rec) ≡ recordSize d ⌝ }
+    requires { ⌜ Held d k ⌝ }
+    requires { ⌜ NamesPlace k verdict ⌝ }
+    ensures { λ _. ⌜ now (rec .exit) ≡ leftBy d k verdict (now (rec .entry)) ⌝ }
+{
+    match verdict {
+        Verdict::Data(p) => record::turn_bit(rec, p),
+        Verdict::Check(p) => record::turn_bit(rec, 8 * d + (p - k)),
+        Verdict::Clean => {}
+        Verdict::Even => {}
+        Verdict::Odd => {}
+        Verdict::Stray => {}
+    }
+}
+
+// A record's entry is written and the record mended: its bytes as read go into the entry before that, those as left behind it.
+pub fn enter(rec: &mut [u8], entry: &mut [u8], d: usize, k: usize, n: u16, verdict: Verdict)
+    requires { ⌜ length (now rec) ≡ recordSize d ⌝ }
+    requires { ⌜ length (now entry) ≡ entrySize d ⌝ }
+    requires { ⌜ Held d k ⌝ }
+    requires { ⌜ NamesPlace k verdict ⌝ }
+    ensures { λ _. ⌜ now (rec .exit) ≡ leftBy d k verdict (now (rec .entry)) ⌝ }
+    ensures { λ _. ⌜ now (entry .exit) ≡ entryBytes (entryBy d k n verdict (now (rec .entry))) ⌝ }
+{
+    let middle = HEAD + rec.len();
+    let end = middle + rec.len();
+    let finding = word::finding_of(verdict);
+    record::put_head(
+        &mut entry[0..HEAD],
+        n,
+        finding.verdict as u8,
+        finding.place as u8,
+    );
+    record::put_bytes(&mut entry[HEAD..middle], &rec[..]);
+    mend(rec, d, k, verdict);
+    record::put_bytes(&mut entry[middle..end], &rec[..]);
+}

@@ -1,0 +1,59 @@
+-- Opened codes are laid out within their places, accepted or refused. Assumes nothing.
+use mathlib.Core.Path.{_≡_, refl, sym, ap}
+use mathlib.Core.Bool.{Bool, true, false, true≢false}
+use mathlib.Core.List.{List}
+use Prim.Native.Nat.{ℕ, _+_, _≤_}
+use native.Mathlib.Omega.{arith}
+use lib.ListN.{length, take}
+use lib.Seq.{length-take-le}
+use Rattle.parity.specs.Odd.{allRows}
+use Rattle.columns.proofs.Singles.{length-joined}
+use Rattle.code.specs.declared.Refusal.{Refusal}
+use Rattle.code.specs.declared.Standing.{Standing}
+use Rattle.code.specs.declared.Standing.the-variants as standing
+use Rattle.code.specs.declared.Judged.{Judged}
+use Rattle.code.specs.declared.Judged.the-variants.{Accepted, NoData, NoChecks, TooWide, EvenColumn, SingleOne, Repeated}
+use Rattle.code.specs.Judge.{judgeIn}
+use Rattle.code.specs.Rule.{matrix}
+use Rattle.code.specs.Opened.{standingOf, openedBy, openedIn, Laid}
+use Rattle.code.proofs.Table.{judge-rule}
+
+-- a refusal is no acceptance
+abbrev isAccepted : Standing → Bool
+isAccepted standing.Accepted = true
+isAccepted (standing.Refused r) = false
+
+pub refused-no-acceptance : {f : Refusal} → standing.Refused f ≡ standing.Accepted → ⊥
+refused-no-acceptance e = true≢false (sym (ap isAccepted e))
+
+-- only an acceptance stands accepted
+pub accepted-of-standing : (v : Judged) → standingOf v ≡ standing.Accepted → v ≡ Accepted
+accepted-of-standing Accepted e = refl
+accepted-of-standing NoData e = absurd (refused-no-acceptance e)
+accepted-of-standing NoChecks e = absurd (refused-no-acceptance e)
+accepted-of-standing (TooWide i) e = absurd (refused-no-acceptance e)
+accepted-of-standing (EvenColumn i) e = absurd (refused-no-acceptance e)
+accepted-of-standing (SingleOne i) e = absurd (refused-no-acceptance e)
+accepted-of-standing (Repeated i) e = absurd (refused-no-acceptance e)
+
+-- what is within limits for an acceptance is so for any code
+laid-by : (most : ℕ) → most ≤ 128 → (s : Standing) (cs : List ℕ) (k rows : ℕ)
+    → (s ≡ standing.Accepted → (k ≤ length cs) × (length cs ≤ k + 16) × (k ≤ most))
+    → Laid (openedBy s cs k rows) × (openedBy s cs k rows .k ≤ most)
+laid-by most h standing.Accepted cs k rows f =
+    let few = f refl .2 in
+    (record { parts = f refl .0; checks = f refl .1; data-most = omega arith }, few)
+laid-by most h (standing.Refused r) cs k rows f =
+    (record { parts = omega arith; checks = omega arith; data-most = omega arith }, omega arith)
+
+pub laid-in : (most : ℕ) (columns : List ℕ) (k r : ℕ) → length columns ≡ most → most ≤ 128
+    → Laid (openedIn most columns k r) × (openedIn most columns k r .k ≤ most)
+laid-in most columns k r e h =
+    laid-by most h (standingOf (judgeIn most columns k r)) (matrix (take k columns) r) k (allRows r)
+    (λ a.
+    let s = judge-rule most columns k r .0 (accepted-of-standing (judgeIn most columns k r) a) .limits in
+    let few = s .sized .few in
+    let top = s .top in
+    let l = length-take-le k columns (omega arith) in
+    let n = length-joined (take k columns) r in
+    (omega arith, omega arith, few))

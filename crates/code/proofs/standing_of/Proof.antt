@@ -1,0 +1,67 @@
+-- `code::standing_of` meets its contract: a row for each case. Assumes nothing.
+use mathlib.Core.Path.{sym, ap}
+use Rattle.code.specs.Opened.{standingOf}
+use borrow.Author.Needs.{needs}
+use Rattle.code.proofs.standing_of.Statement.{statement}
+use Rattle.code.proofs.standing_of.Tie as tie
+
+enum-told : tie.Need-enum-told
+enum-told c = search needs
+
+enum-told-2 : tie.Need-enum-told-2
+enum-told-2 c = search needs
+
+enum-told-3 : tie.Need-enum-told-3
+enum-told-3 c = search needs
+
+enum-known-a : tie.Need-enum-known-a
+enum-known-a c = search needs
+
+enum-known-a-2 : tie.Need-enum-known-a-2
+enum-known-a-2 c = search needs
+
+enum-known-a-3 : tie.Need-enum-known-a-3
+enum-known-a-3 c = search needs
+
+enum-known-a-4 : tie.Need-enum-known-a-4
+enum-known-a-4 c = search needs
+
+returns : tie.Need-returns
+returns c = search needs
+
+returns-2 : tie.Need-returns-2
+returns-2 c = sym (ap standingOf (c .enum-told2 .given .1))
+
+returns-3 : tie.Need-returns-3
+returns-3 c = sym (ap standingOf (c .enum-told3 .given .1))
+
+returns-4 : tie.Need-returns-4
+returns-4 c = sym (ap standingOf (c .before .a .given .1))
+
+returns-5 : tie.Need-returns-5
+returns-5 c = sym (ap standingOf (c .before .a2 .given .1))
+
+returns-6 : tie.Need-returns-6
+returns-6 c = sym (ap standingOf (c .before .a3 .given .1))
+
+returns-7 : tie.Need-returns-7
+returns-7 c = sym (ap standingOf (c .before .a4 .given .1))
+
+pub standing-of-spec : {M : Type 1} → statement M
+standing-of-spec =
+    tie.close
+    (tie.spec
+    enum-told
+    enum-told-2
+    enum-told-3
+    enum-known-a
+    enum-known-a-2
+    enum-known-a-3
+    enum-known-a-4
+    returns
+    returns-2
+    returns-3
+    returns-4
+    returns-5
+    returns-6
+    returns-7)

@@ -1,0 +1,92 @@
+-- A code that the desk accepts or refuses: what its number says of the judge, and what it is opened to. Assumes nothing.
+use mathlib.Core.Path.{_≡_, refl, sym, ap, _∙_}
+use mathlib.Core.Logic.{_≢_}
+use mathlib.Core.List.{List}
+use Prim.Native.Nat.{ℕ, _+_, _-_}
+use native.Mathlib.Omega.{arith}
+use lib.ListN.{length, take}
+use lib.Seq.{length-take-le}
+use Rattle.parity.specs.Odd.{oddIn, allRows}
+use Rattle.columns.specs.Sound.{Sound}
+use Rattle.columns.proofs.Singles.{length-joined}
+use Rattle.code.specs.declared.Code.{Code}
+use Rattle.code.specs.declared.Opened.{Opened}
+use Rattle.code.specs.declared.Refusal.{Refusal}
+use Rattle.code.specs.declared.Standing.{Standing}
+use Rattle.code.specs.declared.Standing.the-variants as standing
+use Rattle.code.specs.declared.Judged.{Judged}
+use Rattle.code.specs.declared.Judged.the-variants.{Accepted}
+use Rattle.code.specs.Judge.{judgeIn}
+use Rattle.code.specs.Rule.{matrixOf, Limits, Hsiao}
+use Rattle.code.specs.Opened.{standingOf, judgementBy, judgementIn, laidOut, openedBy, openedOf, columnsOf}
+use Rattle.code.proofs.Laying.{laid-columns}
+use Rattle.code.proofs.Numbers.{zero-accepts}
+use Rattle.code.proofs.Table.{judge-rule}
+use Rattle.sound.proofs.Hsiao.{accepted-sound}
+use Rattle.desk.specs.Answers.{judgementOf}
+use Rattle.demands.specs.Definitions as words
+use Rattle.demands.specs.Definitions.{Refused, placesOf}
+
+abbrev pub judgeOf : Code → Judged
+judgeOf code = judgeIn 64 (code .columns) (code .k) (code .r)
+
+refusal-stands : (s : Standing) → judgementBy s .number ≢ 0 → s ≡ standing.Refused (judgementBy s)
+refusal-stands standing.Accepted n = absurd (n refl)
+refusal-stands (standing.Refused f) n = refl
+
+module _ (code : Code) where
+  opened-standing : (s : Standing) (cs : List ℕ) (k rows : ℕ) → openedBy s cs k rows .standing ≡ s
+  opened-standing standing.Accepted cs k rows = refl
+  opened-standing (standing.Refused f) cs k rows = refl
+
+  -- the judge's answer, as the desk gives it
+  pub standing-is : openedOf code .standing ≡ standingOf (judgeOf code)
+  standing-is = opened-standing (standingOf (judgeOf code)) (matrixOf code) (code .k) (allRows (code .r))
+
+  pub judgement-is : judgementOf code ≡ judgementBy (standingOf (judgeOf code))
+  judgement-is = ap judgementBy standing-is
+
+  pub judged-of : judgementOf code .number ≡ 0 → judgeOf code ≡ Accepted
+  judged-of e = zero-accepts (judgeOf code) (sym (ap (λ (f : Refusal). f .number) judgement-is) ∙ e)
+
+  pub standing-refused : Refused code → openedOf code .standing ≡ standing.Refused (judgementOf code)
+  standing-refused n = refusal-stands (openedOf code .standing) n
+
+  -- what an accepted code is opened to
+  module _ (e : judgementOf code .number ≡ 0) where
+    pub standing-accepted : openedOf code .standing ≡ standing.Accepted
+    standing-accepted = standing-is ∙ ap standingOf (judged-of e)
+
+    pub opened-is : openedOf code ≡ laidOut (matrixOf code) (code .k) (allRows (code .r))
+    opened-is = ap (λ v. openedBy (standingOf v) (matrixOf code) (code .k) (allRows (code .r))) (judged-of e)
+
+    pub data-is : openedOf code .k ≡ code .k
+    data-is = ap (λ (o : Opened). o .k) opened-is
+
+    pub columns-are : columnsOf (openedOf code) ≡ matrixOf code
+    columns-are = ap columnsOf opened-is ∙ laid-columns (matrixOf code)
+
+-- an accepted code as it is handed about
+module _ (code : Code) (a : words.Accepted code) where
+  pub limits-of : Limits 64 (code .k) (code .r)
+  limits-of = judge-rule 64 (code .columns) (code .k) (code .r) .0 (judged-of code (a .number)) .limits
+
+  pub rule-of-code : Hsiao (take (code .k) (code .columns)) (code .r)
+  rule-of-code = judge-rule 64 (code .columns) (code .k) (code .r) .0 (judged-of code (a .number)) .rule
+
+  pub data-length : length (take (code .k) (code .columns)) ≡ code .k
+  data-length =
+      let few = limits-of .sized .few in
+      length-take-le (code .k) (code .columns) (omega (arith, a .handed))
+
+  pub places-length : length (matrixOf code) ≡ placesOf code
+  places-length = length-joined (take (code .k) (code .columns)) (code .r) ∙ ap (λ (n : ℕ). n + code .r) data-length
+
+  pub sound-of : Sound (oddIn (allRows (code .r))) (matrixOf code) (code .k) (code .r)
+  sound-of = accepted-sound 64 (code .columns) (code .k) (code .r) (a .handed) (judged-of code (a .number))
+
+  -- the opened code has r check columns
+  pub checks-are : openedOf code .n - openedOf code .k ≡ code .r
+  checks-are =
+      let n = places-length in
+      ap (λ (o : Opened). o .n - o .k) (opened-is code (a .number)) ∙ omega arith

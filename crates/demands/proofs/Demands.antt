@@ -1,0 +1,145 @@
+-- THE PROOFS of the demands: each named proposition of specs/Demands.antt, in its order. Assumes nothing.
+use Rattle.demands.specs.Demands as demands
+use Rattle.demands.proofs.OfTallies as tallies
+use Rattle.demands.proofs.OfJudge as judge
+use Rattle.demands.proofs.OfCodes as codes
+use Rattle.demands.proofs.OfWords as words
+use Rattle.demands.proofs.OfLists as lists
+use Rattle.demands.proofs.OfCards as cards
+use Rattle.demands.proofs.OfPasses as passes
+
+pub sizes : demands.Sizes
+sizes = tallies.sizes
+
+pub records-read : demands.RecordsRead
+records-read = tallies.records-read
+
+pub entries-read : demands.EntriesRead
+entries-read = tallies.entries-read
+
+-- ---- the code
+
+pub accepted-exactly : demands.AcceptedExactly
+accepted-exactly = judge.accepted-exactly
+
+pub three-ones : demands.ThreeOnes
+three-ones = judge.three-ones
+
+pub judged-exactly : demands.JudgedExactly
+judged-exactly = judge.judged-exactly
+
+pub check-bits-refused : demands.CheckBitsRefused
+check-bits-refused = codes.check-bits-refused
+
+pub check-bits-least : demands.CheckBitsLeast
+check-bits-least = codes.check-bits-least
+
+pub check-bits-room : demands.CheckBitsRoom
+check-bits-room = codes.check-bits-room
+
+pub balance-refuses : demands.BalanceRefuses
+balance-refuses = codes.balance-refuses
+
+pub balance-rows : demands.BalanceRows
+balance-rows = codes.balance-rows
+
+pub balances-add-up : demands.BalancesAddUp
+balances-add-up = codes.balances-add-up
+
+-- ---- writing and reading one word
+
+pub writing-refuses : demands.WritingRefuses
+writing-refuses = words.writing-refuses
+
+pub writing-bits : demands.WritingBits
+writing-bits = words.writing-bits
+
+pub reading-refuses : demands.ReadingRefuses
+reading-refuses = words.reading-refuses
+
+pub clean-exactly : demands.CleanExactly
+clean-exactly = words.clean-exactly
+
+pub clean-as-read : demands.CleanAsRead
+clean-as-read = words.clean-as-read
+
+pub verdicts-exactly : demands.VerdictsExactly
+verdicts-exactly = words.verdicts-exactly
+
+pub place-named : demands.PlaceNamed
+place-named = words.place-named
+
+pub one-flip : demands.OneFlip
+one-flip = words.one-flip
+
+pub two-flips : demands.TwoFlips
+two-flips = words.two-flips
+
+pub mended-clean : demands.MendedClean
+mended-clean = words.mended-clean
+
+pub left-as-read : demands.LeftAsRead
+left-as-read = words.left-as-read
+
+-- ---- explanations
+
+pub explaining-refuses : demands.ExplainingRefuses
+explaining-refuses = lists.explaining-refuses
+
+pub explained-entries : demands.ExplainedEntries
+explained-entries = lists.explained-entries
+
+pub entry-tells : demands.EntryTells
+entry-tells = lists.entry-tells
+
+pub explained-exactly : demands.ExplainedExactly
+explained-exactly = lists.explained-exactly
+
+pub explained-once : demands.ExplainedOnce
+explained-once = lists.explained-once
+
+pub explained-in-order : demands.ExplainedInOrder
+explained-in-order = lists.explained-in-order
+
+pub explained-flips : demands.ExplainedFlips
+explained-flips = lists.explained-flips
+
+-- ---- cards
+
+pub cards-refuse : demands.CardsRefuse
+cards-refuse = cards.cards-refuse
+
+pub card-flagged : demands.CardFlagged
+card-flagged = cards.flagged
+
+-- ---- the tally and the pass
+
+pub tally-counts : demands.TallyCounts
+tally-counts = tallies.tally-counts
+
+pub pass-refuses : demands.PassRefuses
+pass-refuses = passes.pass-refuses
+
+pub pass-empty : demands.PassEmpty
+pass-empty = passes.pass-empty
+
+pub pass-outside : demands.PassOutside
+pass-outside = passes.pass-outside
+
+pub pass-of-run : demands.PassOfRun
+pass-of-run = passes.of-run
+
+pub pass-records : demands.PassRecords
+pass-records = passes.pass-records
+
+pub pass-entries : demands.PassEntries
+pass-entries = passes.pass-entries
+
+pub pass-counts : demands.PassCounts
+pass-counts = passes.pass-counts
+
+pub pass-again : demands.PassAgain
+pass-again = passes.pass-again
+
+pub pass-in-two : demands.PassInTwo
+pass-in-two = passes.pass-in-two

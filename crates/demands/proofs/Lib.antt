@@ -1,0 +1,10 @@
+pub mod Codes
+pub mod Words
+pub mod OfJudge
+pub mod OfCodes
+pub mod OfWords
+pub mod OfLists
+pub mod OfCards
+pub mod OfTallies
+pub mod OfPasses
+pub mod Demands

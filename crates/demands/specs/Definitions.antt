@@ -1,0 +1,159 @@
+-- The words that Demands.antt uses. Assumes nothing.
+use mathlib.Core.Path.{_≡_}
+use mathlib.Core.List.{List, [], _∷_, _++_}
+use mathlib.Core.Bool.{cond}
+use Prim.Native.Nat.{ℕ, zero, suc, _+_, _/_, _%_, _^_, _<_}
+use lib.Dec.{eqb}
+use lib.IntN.{pos}
+use lib.ListN.{length, take, replicate}
+use Rattle.columns.specs.Mix.{column}
+use Rattle.code.specs.declared.Code.{Code}
+use Rattle.code.specs.declared.Refusal.{Refusal}
+use Rattle.code.specs.Opened.{openedOf, columnsOf}
+use Rattle.balance.specs.declared.RowBalance.{RowBalance}
+use Rattle.word.specs.declared.CheckWord.{CheckWord}
+use Rattle.word.specs.Word.{wordOf, dataOf, checkOf}
+use Rattle.explain.specs.declared.Listing.{Listing}
+use Rattle.explain.specs.Explanations as explaining
+use Rattle.cards.specs.declared.CardCheck.{CardCheck}
+use Rattle.record.specs.declared.Tally.{Tally}
+use Rattle.record.specs.Layout.{dataSize, recordSize, entrySize, dataIn, checkIn}
+use Rattle.record.specs.Run.{recordAt}
+use Rattle.pass.specs.declared.PassAnswer.{PassAnswer}
+use Rattle.pass.specs.Pass.{readerOf, neededRun}
+use Rattle.desk.specs.declared.ReadWord.{ReadWord}
+use Rattle.desk.specs.Answers.{judgementOf, readOf, passedOf}
+
+-- ---- codes
+
+-- a code as it is handed about has 64 places
+abbrev pub Handed : Code → Type 0
+Handed code = length (code .columns) ≡ 64
+
+-- the desk accepts it, or refuses it
+pub record Accepted (code : Code) : Type 0 where
+  pub handed : Handed code
+  pub number : judgementOf code .number ≡ 0
+
+abbrev pub Refused : Code → Type 0
+Refused code = ¬ (judgementOf code .number ≡ 0)
+
+-- each of its places holds a number of 16 bits
+abbrev pub Stored : Code → Type 0
+Stored code = (p : ℕ) → p < 64 → column (code .columns) p < 2 ^ 16
+
+-- its k data columns, and the number n of its places
+abbrev pub dataColumns : Code → List ℕ
+dataColumns code = take (code .k) (code .columns)
+
+abbrev pub placesOf : Code → ℕ
+placesOf code = code .k + code .r
+
+-- ---- a word is one number: place p is its binary digit p, the data bits lowest
+
+-- it has no stray bit
+abbrev pub Unstrayed : Code → ℕ → Type 0
+Unstrayed code w = w < 2 ^ placesOf code
+
+abbrev pub read : Code → ℕ → ReadWord
+read code w = readOf code (dataOf (code .k) w) (checkOf (code .k) w)
+
+-- a reading hands back the word u, its data bits and its check bits
+pub record HandsBack (code : Code) (a : ReadWord) (u : ℕ) : Type 0 where
+  pub data-bits : a .«data» ≡ dataOf (code .k) u
+  pub check-bits : a .check ≡ checkOf (code .k) u
+
+-- it is answered, and clean
+pub record Clean (code : Code) (w : ℕ) : Type 0 where
+  pub number : read code w .number ≡ 0
+  pub verdict : read code w .verdict ≡ 0
+
+-- the explanations of a word
+abbrev pub explanations : Code → ℕ → ℕ → List (List ℕ)
+explanations code w limit = explaining.explanations (openedOf code .rows) (columnsOf (openedOf code)) (openedOf code .k) w limit
+
+abbrev pub explanationsOf : Code → ℕ → ℕ → ℕ → List (List ℕ)
+explanationsOf code low check limit = explanations code (wordOf (code .k) low check) limit
+
+-- ---- refused answers: a number, what is told, and 0 everywhere else
+
+abbrev pub told : ℕ → ℕ → Refusal
+told number what = record { number = number; told = what }
+
+abbrev pub onlyNumber : ℕ → Refusal
+onlyNumber number = told number 0
+
+abbrev pub refusedRows : Refusal → RowBalance
+refusedRows f = record { number = f .number; told = f .told; rows = replicate 16 (pos 0) }
+
+abbrev pub refusedWriting : Refusal → CheckWord
+refusedWriting f = record { number = f .number; told = f .told; check = 0 }
+
+abbrev pub refusedReading : Refusal → ReadWord
+refusedReading f = record { number = f .number; told = f .told; verdict = 0; place = 0; «data» = 0; check = 0 }
+
+abbrev pub refusedListing : Refusal → Listing
+refusedListing f = record { number = f .number; told = f .told; length = 0 }
+
+abbrev pub refusedCards : Refusal → CardCheck
+refusedCards f = record { number = f .number; told = f .told; card = 0; mask = 0 }
+
+abbrev pub allZero : Tally
+allZero = record { clean = 0; «data» = 0; check = 0; even = 0; odd = 0; stray = 0 }
+
+abbrev pub refusedPass : Refusal → PassAnswer
+refusedPass f = record { number = f .number; told = f .told; tally = allZero }
+
+-- ---- images and journals, of records with 8 bytes of data
+
+abbrev pub recordOf : List ℕ → ℕ → List ℕ
+recordOf image i = recordAt (recordSize dataSize) image i
+
+abbrev pub entryAt : List ℕ → ℕ → List ℕ
+entryAt journal m = recordAt (entrySize dataSize) journal m
+
+-- how many entries a journal has room for, and how many the run from a up to b needs
+abbrev pub room : List ℕ → ℕ
+room journal = length journal / entrySize dataSize
+
+abbrev pub needed : Code → List ℕ → ℕ → ℕ → ℕ
+needed code image a b = neededRun (readerOf (openedOf code) dataSize) image a b
+
+-- the bytes of an entry: record number, low byte first, verdict, place, the record as read and as left
+abbrev pub entryOf : ℕ → ℕ → ℕ → List ℕ → List ℕ → List ℕ
+entryOf i verdict place before after = (i % 256 ∷ i / 256 % 256 ∷ verdict ∷ place ∷ []) ++ (before ++ after)
+
+-- reading the word that the record i says
+abbrev pub readAt : Code → List ℕ → ℕ → ReadWord
+readAt code image i = readOf code (dataIn dataSize (recordOf image i)) (checkIn dataSize (recordOf image i))
+
+-- its verdict and its place in a pass: those of the reading; a stray word has verdict 5 and place 255
+abbrev pub verdictOf : Code → List ℕ → ℕ → ℕ
+verdictOf code image i = cond (eqb (readAt code image i .number) 7) 5 (readAt code image i .verdict)
+
+abbrev pub placeFor : Code → List ℕ → ℕ → ℕ
+placeFor code image i = cond (eqb (readAt code image i .number) 7) 255 (readAt code image i .place)
+
+-- a pass over the run from a up to b: its answer, image and journal afterwards, and that it is done
+abbrev pub answerOf : Code → List ℕ → ℕ → ℕ → List ℕ → PassAnswer
+answerOf code image a b journal = passedOf code image a b journal .answer
+
+abbrev pub imageAfter : Code → List ℕ → ℕ → ℕ → List ℕ → List ℕ
+imageAfter code image a b journal = passedOf code image a b journal .image
+
+abbrev pub journalAfter : Code → List ℕ → ℕ → ℕ → List ℕ → List ℕ
+journalAfter code image a b journal = passedOf code image a b journal .journal
+
+abbrev pub Done : Code → List ℕ → ℕ → ℕ → List ℕ → Type 0
+Done code image a b journal = answerOf code image a b journal .number ≡ 0
+
+-- a refused pass: this number and what it tells, an all-zero tally, and no byte of image or journal changed
+pub record PassRefused (code : Code) (image : List ℕ) (a b : ℕ) (journal : List ℕ) (f : Refusal) : Type 0 where
+  pub answer : answerOf code image a b journal ≡ refusedPass f
+  pub same-image : imageAfter code image a b journal ≡ image
+  pub same-journal : journalAfter code image a b journal ≡ journal
+
+-- how many of the n records from a on have the verdict v: one for each, the newest last
+unfoldable pub countFrom : Code → List ℕ → ℕ → ℕ → ℕ → ℕ
+countFrom code image v a zero = 0
+countFrom code image v a (suc n) = countFrom code image v a n + cond (eqb (verdictOf code image (a + n)) v) 1 0

@@ -1,0 +1,408 @@
+-- THE DEMANDS: what the desk promises of its exported functions, each a named proposition, proved in proofs/Demands.antt. Numbers, values
+-- and words are document 01's. Definitions.antt beside this page has the words used here, crate desk's Answers.antt what each function
+-- answers. In order: records and entries; the code; writing and reading one word; explanations; cards; the tally; the pass. Assumes nothing.
+use mathlib.Core.Path.{_≡_}
+use mathlib.Core.Logic.{_≢_, _⊎_, _↔_}
+use mathlib.Core.Bool.{cond}
+use mathlib.Core.List.{List, [], _∷_, _++_, List·Memᴰ}
+use Prim.Native.Nat.{ℕ, _+_, _-_, _*_, _/_, _^_, _≤_, _<_, min, max}
+use lib.Bits.{bitXor}
+use lib.Count.{ones}
+use lib.Dec.{eqb, ltb}
+use lib.IntN.{pos, _+ℤ_}
+use lib.ListN.{length, getD, take, drop}
+use Rattle.parity.specs.Odd.{oddOnes}
+use Rattle.columns.specs.Mix.{column, flipped}
+use Rattle.columns.specs.Bits.{bitAt, rowBit}
+use Rattle.code.specs.declared.Code.{Code}
+use Rattle.code.specs.declared.Judged.the-variants as judged
+use Rattle.code.specs.Rule.{matrixOf, Limits, SaysOfCode}
+use Rattle.balance.specs.Balance.{rowOnes, allOnes, sumℤ}
+use Rattle.record.specs.Bytes.{AllBytes}
+use Rattle.record.specs.Layout.{dataSize, recordSize, entrySize, imageLimit, recordBytes, dataIn, checkIn, Entry, entryBytes, entryIn}
+use Rattle.record.specs.Run.{over}
+use Rattle.record.specs.Tally.{tallyBy, countedOf}
+use Rattle.listing.specs.Sets.{flipAll, entryOf, bytesFor}
+use Rattle.explain.specs.Order.{SetOf, InOrder}
+use Rattle.cards.specs.Cards.{cardAt}
+use Rattle.cards.specs.Rule.{CardProof, FirstWeak, flipMask}
+use Rattle.pass.specs.Asked.{Image, NoImage, Run, NoRun}
+use Rattle.passes.specs.Twice.{added, tallyAgain}
+use Rattle.desk.specs.Answers.{checkBitsOf, judgementOf, rowsOf, writtenOf, readOf, explainedOf, cardsOf}
+use Rattle.demands.specs.Definitions.{Handed, Stored, Accepted, Refused, dataColumns, placesOf, Unstrayed, read, HandsBack, Clean}
+use Rattle.demands.specs.Definitions.{explanations, explanationsOf, told, onlyNumber, refusedRows, refusedWriting, refusedReading, refusedListing}
+use Rattle.demands.specs.Definitions.{refusedCards, allZero, PassRefused, recordOf, entryAt, room, needed, readAt, verdictOf, placeFor}
+use Rattle.demands.specs.Definitions.{answerOf, imageAfter, journalAfter, Done, countFrom}
+use Rattle.demands.specs.Definitions as words
+
+-- ---- records and entries
+
+-- Records have 10 bytes, entries 24, and an image at most 65,530.
+abbrev pub Sizes : Type 0
+Sizes = (recordSize dataSize ≡ 10) × (entrySize dataSize ≡ 24) × (imageLimit dataSize ≡ 65530)
+
+-- A record's bytes say data and check bits, and these the bytes: each word has one record, each record one word.
+abbrev pub RecordsRead : Type 0
+RecordsRead =
+    ((rec : List ℕ) → AllBytes rec → length rec ≡ 10 → recordBytes dataSize (dataIn dataSize rec) (checkIn dataSize rec) ≡ rec)
+    × ((low check : ℕ) → low < 2 ^ 64 → check < 2 ^ 16
+    → (dataIn dataSize (recordBytes dataSize low check) ≡ low) × (checkIn dataSize (recordBytes dataSize low check) ≡ check))
+
+-- An entry's bytes say a record's number, verdict and place and its bytes before and after, and these the bytes.
+abbrev pub EntriesRead : Type 0
+EntriesRead =
+    ((bytes : List ℕ) → AllBytes bytes → length bytes ≡ 24 → entryBytes (entryIn dataSize bytes) ≡ bytes)
+    × ((e : Entry) → e .number < 2 ^ 16 → length (e .before) ≡ 10 → length (e .after) ≡ 10 → entryIn dataSize (entryBytes e) ≡ e)
+
+-- ---- the code
+
+-- Accepted exactly: k is 1 to 64, r is 3 to 16, each data column is below 2 ^ r, and of all n columns, check columns included,
+-- no two are equal and each has an odd number of ones.
+abbrev pub AcceptedExactly : Type 0
+AcceptedExactly =
+    (code : Code) → Handed code
+    → (judgementOf code .number ≡ 0)
+    ↔ (Limits 64 (code .k) (code .r)
+    × ((i : ℕ) → i < code .k → column (dataColumns code) i < 2 ^ code .r)
+    × ((p q : ℕ) → p < placesOf code → q < placesOf code → column (matrixOf code) p ≡ column (matrixOf code) q → p ≡ q)
+    × ((p : ℕ) → p < placesOf code → oddOnes (column (matrixOf code) p) ≡ 1))
+
+-- So each data column has at least three ones.
+abbrev pub ThreeOnes : Type 0
+ThreeOnes = (code : Code) → Accepted code → (i : ℕ) → i < code .k → 3 ≤ ones (column (dataColumns code) i)
+
+-- Refusals 1 to 6 exactly: each number, told its place, exactly when its row of the table holds and no earlier one; 0 exactly for an
+-- accepted code.
+abbrev pub JudgedExactly : Type 0
+JudgedExactly =
+    (code : Code)
+    → let says = SaysOfCode 64 (code .columns) (code .k) (code .r) in
+    ((judgementOf code ≡ onlyNumber 0) ↔ says judged.Accepted)
+    × ((judgementOf code ≡ onlyNumber 1) ↔ says judged.NoData)
+    × ((judgementOf code ≡ onlyNumber 2) ↔ says judged.NoChecks)
+    × ((i : ℕ) → (judgementOf code ≡ told 3 i) ↔ says (judged.TooWide i))
+    × ((i : ℕ) → (judgementOf code ≡ told 4 i) ↔ says (judged.EvenColumn i))
+    × ((i : ℕ) → (judgementOf code ≡ told 5 i) ↔ says (judged.SingleOne i))
+    × ((i : ℕ) → (judgementOf code ≡ told 6 i) ↔ says (judged.Repeated i))
+
+-- Check bits wanted is refused by 1 exactly for k 0 and k over 64, and hands back no bits then.
+abbrev pub CheckBitsRefused : Type 0
+CheckBitsRefused =
+    (k : ℕ) → ((checkBitsOf k .number ≡ 1) ↔ ((k ≡ 0) ⊎ (64 < k))) × ((k ≡ 0) ⊎ (64 < k) → checkBitsOf k ≡ record { number = 1; bits = 0 })
+
+-- Else it is the smallest r for which an accepted code of k data bits exists: there is one, and every accepted code of k data bits has at
+-- least as many.
+abbrev pub CheckBitsLeast : Type 0
+CheckBitsLeast =
+    (k : ℕ) → 1 ≤ k → k ≤ 64
+    → (checkBitsOf k .number ≡ 0)
+    × ((code : Code) × Stored code × Accepted code × (code .k ≡ k) × (code .r ≡ checkBitsOf k .bits))
+    × ((code : Code) → Accepted code → code .k ≡ k → checkBitsOf k .bits ≤ code .r)
+
+-- and that is k ≤ 2 ^ (r - 1) - r: an accepted code of k data bits and r check bits exists just where that holds
+abbrev pub CheckBitsRoom : Type 0
+CheckBitsRoom =
+    (k r : ℕ) → 1 ≤ k → k ≤ 64 → 3 ≤ r → r ≤ 16
+    → ((code : Code) × Stored code × Accepted code × (code .k ≡ k) × (code .r ≡ r)) ↔ (k + r ≤ 2 ^ (r - 1))
+
+-- Row balance is refused as the code is: its number and place, and 16 zeros. Else its number is 0, and nothing is told.
+abbrev pub BalanceRefuses : Type 0
+BalanceRefuses =
+    (code : Code)
+    → (Refused code → rowsOf code ≡ refusedRows (judgementOf code))
+    × (judgementOf code .number ≡ 0 → (rowsOf code .number ≡ 0) × (rowsOf code .told ≡ 0))
+
+-- The balance of row j below r is r times the ones in row j, less all ones of the n columns; from r on it is 0. There are 16 rows.
+abbrev pub BalanceRows : Type 0
+BalanceRows =
+    (code : Code) → Accepted code
+    → (length (rowsOf code .rows) ≡ 16)
+    × ((j : ℕ) → j < code .r
+    → getD (rowsOf code .rows) j (pos 0) +ℤ pos (allOnes (matrixOf code)) ≡ pos (code .r * rowOnes (matrixOf code) j))
+    × ((j : ℕ) → code .r ≤ j → j < 16 → getD (rowsOf code .rows) j (pos 0) ≡ pos 0)
+
+-- The balances of any code add up to 0 (a refused code's are all 0).
+abbrev pub BalancesAddUp : Type 0
+BalancesAddUp = (code : Code) → Handed code → sumℤ (rowsOf code .rows) ≡ pos 0
+
+-- ---- writing and reading one word
+
+-- Writing refuses in this order: the code's number and place; 7 exactly for a data bit at k or above.
+abbrev pub WritingRefuses : Type 0
+WritingRefuses =
+    (code : Code) (low : ℕ)
+    → (Refused code → writtenOf code low ≡ refusedWriting (judgementOf code))
+    × (judgementOf code .number ≡ 0 → 2 ^ code .k ≤ low → writtenOf code low ≡ refusedWriting (onlyNumber 7))
+    × (judgementOf code .number ≡ 0 → low < 2 ^ code .k → (writtenOf code low .number ≡ 0) × (writtenOf code low .told ≡ 0))
+
+-- Check bit j of writing is the exclusive or of those data bits whose column has bit j; there are r of them.
+abbrev pub WritingBits : Type 0
+WritingBits =
+    (code : Code) → Accepted code → (low : ℕ) → low < 2 ^ code .k
+    → ((j : ℕ) → bitAt (writtenOf code low .check) j ≡ rowBit (dataColumns code) low j) × (writtenOf code low .check < 2 ^ code .r)
+
+-- Reading refuses in this order: the code's number and place; 7 exactly for a data bit at k or above or a check bit at r or above.
+abbrev pub ReadingRefuses : Type 0
+ReadingRefuses =
+    (code : Code) (low high : ℕ)
+    → (Refused code → readOf code low high ≡ refusedReading (judgementOf code))
+    × (Accepted code → (2 ^ code .k ≤ low) ⊎ (2 ^ code .r ≤ high) → readOf code low high ≡ refusedReading (onlyNumber 7))
+    × (Accepted code → low < 2 ^ code .k → high < 2 ^ code .r → (readOf code low high .number ≡ 0) × (readOf code low high .told ≡ 0))
+
+-- A word without stray bits reads clean exactly when writing its data gives its check bits; it is then handed back as read, with place 255.
+abbrev pub CleanExactly : Type 0
+CleanExactly =
+    (code : Code) → Accepted code → (low high : ℕ) → low < 2 ^ code .k → high < 2 ^ code .r
+    → (readOf code low high .verdict ≡ 0) ↔ (writtenOf code low .check ≡ high)
+
+abbrev pub CleanAsRead : Type 0
+CleanAsRead =
+    (code : Code) → Accepted code → (w : ℕ) → Unstrayed code w → Clean code w
+    → (read code w .place ≡ 255) × HandsBack code (read code w) w
+
+-- The table of verdicts, with the syndrome as document 01 has it: the written check bits of the data as read, exclusive-ored with those
+-- as read.
+abbrev pub VerdictsExactly : Type 0
+VerdictsExactly =
+    (code : Code) → Accepted code → (low high : ℕ) → low < 2 ^ code .k → high < 2 ^ code .r
+    → let s = bitXor (writtenOf code low .check) high in
+    let v = readOf code low high .verdict in
+    ((v ≡ 0) ↔ (s ≡ 0))
+    × ((v ≡ 1) ↔ ((p : ℕ) × (p < code .k) × (column (matrixOf code) p ≡ s)))
+    × ((v ≡ 2) ↔ ((p : ℕ) × (code .k ≤ p) × (p < placesOf code) × (column (matrixOf code) p ≡ s)))
+    × ((v ≡ 3) ↔ ((s ≢ 0) × (oddOnes s ≡ 0)))
+    × ((v ≡ 4) ↔ ((oddOnes s ≡ 1) × ((p : ℕ) → p < placesOf code → column (matrixOf code) p ≢ s)))
+
+-- Verdicts 1 and 2 name the place whose column is the syndrome; the others name none, 255.
+abbrev pub PlaceNamed : Type 0
+PlaceNamed =
+    (code : Code) → Accepted code → (low high : ℕ) → low < 2 ^ code .k → high < 2 ^ code .r
+    → let s = bitXor (writtenOf code low .check) high in
+    let a = readOf code low high in
+    ((a .verdict ≡ 1) ⊎ (a .verdict ≡ 2) → (a .place < placesOf code) × (column (matrixOf code) (a .place) ≡ s))
+    × (a .verdict ≢ 1 → a .verdict ≢ 2 → a .place ≡ 255)
+
+-- One flipped place of a clean word is found, 1 for a data bit and 2 for a check bit, named, and put right.
+abbrev pub OneFlip : Type 0
+OneFlip =
+    (code : Code) → Accepted code → (w : ℕ) → Unstrayed code w → Clean code w → (p : ℕ) → p < placesOf code
+    → (read code (flipped w p) .verdict ≡ cond (ltb p (code .k)) 1 2)
+    × (read code (flipped w p) .place ≡ p)
+    × HandsBack code (read code (flipped w p)) w
+
+-- Two flipped places of a clean word are flagged, and the word is handed back as read.
+abbrev pub TwoFlips : Type 0
+TwoFlips =
+    (code : Code) → Accepted code → (w : ℕ) → Unstrayed code w → Clean code w
+    → (p q : ℕ) → p < placesOf code → q < placesOf code → p ≢ q
+    → (read code (flipped (flipped w p) q) .verdict ≡ 3)
+    × (read code (flipped (flipped w p) q) .place ≡ 255)
+    × HandsBack code (read code (flipped (flipped w p) q)) (flipped (flipped w p) q)
+
+-- Verdicts 1 and 2, of any word: the word handed back differs from the word as read in exactly the named place, and reads clean.
+abbrev pub MendedClean : Type 0
+MendedClean =
+    (code : Code) → Accepted code → (w : ℕ) → Unstrayed code w → (read code w .verdict ≡ 1) ⊎ (read code w .verdict ≡ 2)
+    → (read code w .place < placesOf code)
+    × HandsBack code (read code w) (flipped w (read code w .place))
+    × Clean code (flipped w (read code w .place))
+
+-- Verdicts 3 and 4, of any word: it is handed back as read, and no single flip would make it clean.
+abbrev pub LeftAsRead : Type 0
+LeftAsRead =
+    (code : Code) → Accepted code → (w : ℕ) → Unstrayed code w → (read code w .verdict ≡ 3) ⊎ (read code w .verdict ≡ 4)
+    → (read code w .place ≡ 255)
+    × HandsBack code (read code w) w
+    × ((p : ℕ) → p < placesOf code → ¬ (Clean code (flipped w p)))
+
+-- ---- explanations
+
+-- Explaining refuses in this order: the code's number and place; 7 for a stray bit; 11 for a limit over 2; 10, told the list's length,
+-- where that is over half the lent bytes, rounded down. A refusal changes no byte. Else the lent bytes hold the list's entries, then what
+-- they held.
+abbrev pub ExplainingRefuses : Type 0
+ExplainingRefuses =
+    (code : Code) (low high limit : ℕ) (list : List ℕ)
+    → let a = explainedOf code low high limit list .answer in
+    let after = explainedOf code low high limit list .list in
+    let sets = explanationsOf code low high limit in
+    (Refused code → (a ≡ refusedListing (judgementOf code)) × (after ≡ list))
+    × (Accepted code → (2 ^ code .k ≤ low) ⊎ (2 ^ code .r ≤ high) → (a ≡ refusedListing (onlyNumber 7)) × (after ≡ list))
+    × (Accepted code → low < 2 ^ code .k → high < 2 ^ code .r → 2 < limit → (a ≡ refusedListing (onlyNumber 11)) × (after ≡ list))
+    × (Accepted code → low < 2 ^ code .k → high < 2 ^ code .r → limit ≤ 2 → length list / 2 < length sets
+    → (a ≡ refusedListing (told 10 (length sets))) × (after ≡ list))
+    × (Accepted code → low < 2 ^ code .k → high < 2 ^ code .r → limit ≤ 2 → length sets ≤ length list / 2
+    → (a ≡ record { number = 0; told = 0; length = length sets }) × (after ≡ over (bytesFor sets) list))
+
+-- Entry i of a done list is set i: its lower place and its higher, 255 for none. The bytes past the entries stay.
+abbrev pub ExplainedEntries : Type 0
+ExplainedEntries =
+    (code : Code) (low high limit : ℕ) (list : List ℕ) → explainedOf code low high limit list .answer .number ≡ 0 → Accepted code
+    → let after = explainedOf code low high limit list .list in
+    let sets = explanationsOf code low high limit in
+    ((i : ℕ) → i < length sets → take 2 (drop (2 * i) after) ≡ entryOf (getD sets i []))
+    × (drop (2 * length sets) after ≡ drop (2 * length sets) list)
+
+-- An entry tells its set, since no place is 255.
+abbrev pub EntryTells : Type 0
+EntryTells =
+    (code : Code) → Accepted code → (ps qs : List ℕ) → SetOf (placesOf code) 2 ps → SetOf (placesOf code) 2 qs
+    → entryOf ps ≡ entryOf qs → ps ≡ qs
+
+-- A set of places stands in the list exactly when it has at most `limit` of the n places and flipping exactly those gives a word that
+-- reads clean.
+abbrev pub ExplainedExactly : Type 0
+ExplainedExactly =
+    (code : Code) → Accepted code → (w : ℕ) → Unstrayed code w → (limit : ℕ) (ps : List ℕ)
+    → List·Memᴰ ps (explanations code w limit) ↔ (SetOf (placesOf code) limit ps × Clean code (flipAll w ps))
+
+-- Each set once, fewer places first, then the lower first place; and never more than 40.
+abbrev pub ExplainedOnce : Type 0
+ExplainedOnce =
+    (code : Code) → Accepted code → (w : ℕ) → Unstrayed code w → (limit : ℕ) → limit ≤ 2
+    → (i j : ℕ) → i < length (explanations code w limit) → j < length (explanations code w limit)
+    → getD (explanations code w limit) i [] ≡ getD (explanations code w limit) j [] → i ≡ j
+
+abbrev pub ExplainedInOrder : Type 0
+ExplainedInOrder =
+    (code : Code) → Accepted code → (w : ℕ) → Unstrayed code w → (limit : ℕ) → limit ≤ 2
+    → InOrder (explanations code w limit) × (length (explanations code w limit) ≤ 40)
+
+-- From a clean word the list is the empty set alone; after one flip that place alone; after two flips it holds that pair.
+abbrev pub ExplainedFlips : Type 0
+ExplainedFlips =
+    (code : Code) → Accepted code → (w : ℕ) → Unstrayed code w → Clean code w
+    → ((limit : ℕ) → limit ≤ 2 → explanations code w limit ≡ [] ∷ [])
+    × ((limit : ℕ) → 1 ≤ limit → limit ≤ 2 → (p : ℕ) → p < placesOf code → explanations code (flipped w p) limit ≡ (p ∷ []) ∷ [])
+    × ((p q : ℕ) → p < placesOf code → q < placesOf code → p ≢ q
+    → List·Memᴰ (min p q ∷ max p q ∷ []) (explanations code (flipped (flipped w p) q) 2))
+
+-- ---- cards
+
+-- The card check refuses in this order: the code's number and place; 8 for b below 2 or over 8; 9, told the first weak card and its
+-- smallest mask, exactly when the code is not card-proof for b.
+abbrev pub CardsRefuse : Type 0
+CardsRefuse =
+    (code : Code) (b : ℕ)
+    → (Refused code → cardsOf code b ≡ refusedCards (judgementOf code))
+    × (Accepted code → (b < 2) ⊎ (8 < b) → cardsOf code b ≡ refusedCards (onlyNumber 8))
+    × (Accepted code → 2 ≤ b → b ≤ 8 → (cardsOf code b ≡ refusedCards (onlyNumber 0)) ↔ CardProof b (matrixOf code) (matrixOf code))
+    × (Accepted code → 2 ≤ b → b ≤ 8 → (card mask : ℕ)
+    → (cardsOf code b ≡ record { number = 9; told = 0; card = card; mask = mask }) ↔ FirstWeak b (matrixOf code) (matrixOf code) card mask)
+    × (Accepted code → 2 ≤ b → b ≤ 8 → (cardsOf code b .number ≡ 0) ⊎ (cardsOf code b .number ≡ 9))
+
+-- What it is for: under a card-proof code two or more flips within one card of a clean word are flagged, never mended and never clean.
+abbrev pub CardFlagged : Type 0
+CardFlagged =
+    (code : Code) (b : ℕ) → Handed code → cardsOf code b .number ≡ 0
+    → (w : ℕ) → Unstrayed code w → Clean code w
+    → (t mask : ℕ) → mask < 2 ^ length (cardAt b (matrixOf code) t) → 2 ≤ ones mask
+    → let u = flipMask w (t * b) mask in
+    ((read code u .verdict ≡ 3) ⊎ (read code u .verdict ≡ 4)) × (read code u .place ≡ 255) × HandsBack code (read code u) u
+
+-- ---- the tally
+
+-- A word with the verdict v is counted under v alone; a count at 65,535 stays there; a verdict above 5 changes nothing.
+abbrev pub TallyCounts : Type 0
+TallyCounts =
+    (f : ℕ → ℕ) (v : ℕ)
+    → (f v < 65535 → countedOf (tallyBy f) v ≡ tallyBy (λ u. f u + cond (eqb u v) 1 0))
+    × (f v ≡ 65535 → countedOf (tallyBy f) v ≡ tallyBy f)
+    × (5 < v → countedOf (tallyBy f) v ≡ tallyBy f)
+
+-- ---- the pass
+
+-- A pass refuses in this order: the code's number and place; 12 for an image whose length is no multiple of 10 or over 65,530; 14 for a
+-- run whose start is above its end or whose end is above the number of records; 13, told the entries needed, where the journal has room
+-- for fewer. A refused pass has an all-zero tally and changes no byte of image or journal.
+abbrev pub PassRefuses : Type 0
+PassRefuses =
+    (code : Code) (image : List ℕ) (a b : ℕ) (journal : List ℕ)
+    → (Refused code → PassRefused code image a b journal (judgementOf code))
+    × (Accepted code → NoImage dataSize image → PassRefused code image a b journal (onlyNumber 12))
+    × (Accepted code → Image dataSize image → NoRun dataSize image a b → PassRefused code image a b journal (onlyNumber 14))
+    × (Accepted code → Image dataSize image → Run dataSize image a b → room journal < needed code image a b
+    → PassRefused code image a b journal (told 13 (needed code image a b)))
+    × (Accepted code → Image dataSize image → Run dataSize image a b → needed code image a b ≤ room journal
+    → Done code image a b journal × (answerOf code image a b journal .told ≡ 0))
+
+-- A run with equal ends is done: a tally of zeros, and no byte changed.
+abbrev pub PassEmpty : Type 0
+PassEmpty =
+    (code : Code) (image : List ℕ) (a : ℕ) (journal : List ℕ) → Accepted code → Image dataSize image → Run dataSize image a a
+    → (answerOf code image a a journal ≡ record { number = 0; told = 0; tally = allZero })
+    × (imageAfter code image a a journal ≡ image)
+    × (journalAfter code image a a journal ≡ journal)
+
+-- Whatever is answered, the bytes outside the run stay.
+abbrev pub PassOutside : Type 0
+PassOutside =
+    (code : Code) (image : List ℕ) (a b : ℕ) (journal : List ℕ)
+    → (take (a * recordSize dataSize) (imageAfter code image a b journal) ≡ take (a * recordSize dataSize) image)
+    × (drop (b * recordSize dataSize) (imageAfter code image a b journal) ≡ drop (b * recordSize dataSize) image)
+    × (length (imageAfter code image a b journal) ≡ length image)
+    × (length (journalAfter code image a b journal) ≡ length journal)
+
+-- Nor are they judged: images of one length that agree on the run's records get the same answer and the same journal.
+abbrev pub PassOfRun : Type 0
+PassOfRun =
+    (code : Code) (image other : List ℕ) (a b : ℕ) (journal : List ℕ) → length image ≡ length other
+    → ((i : ℕ) → a ≤ i → i < b → recordOf image i ≡ recordOf other i)
+    → (answerOf code image a b journal ≡ answerOf code other a b journal)
+    × (journalAfter code image a b journal ≡ journalAfter code other a b journal)
+
+-- In a done pass only records of verdict 1 and 2 of the run change, each to the word that reading it hands back.
+abbrev pub PassRecords : Type 0
+PassRecords =
+    (code : Code) → Handed code → (image : List ℕ) (a b : ℕ) (journal : List ℕ) → Done code image a b journal
+    → (i : ℕ) → a ≤ i → i < b
+    → ((verdictOf code image i ≡ 1) ⊎ (verdictOf code image i ≡ 2)
+    → recordOf (imageAfter code image a b journal) i ≡ recordBytes dataSize (readAt code image i .«data») (readAt code image i .check))
+    × (verdictOf code image i ≢ 1 → verdictOf code image i ≢ 2 → recordOf (imageAfter code image a b journal) i ≡ recordOf image i)
+
+-- Each record of the run with a verdict 1 to 5 has its entry, behind those of the run's records before it: number, verdict, place, the
+-- bytes as read and the bytes as left. There are no other entries, and the journal's bytes past them stay.
+abbrev pub PassEntries : Type 0
+PassEntries =
+    (code : Code) → Handed code → (image : List ℕ) (a b : ℕ) (journal : List ℕ) → Done code image a b journal
+    → ((i : ℕ) → a ≤ i → i < b → verdictOf code image i ≢ 0
+    → entryAt (journalAfter code image a b journal) (needed code image a i)
+    ≡ words.entryOf i (verdictOf code image i) (placeFor code image i) (recordOf image i) (recordOf (imageAfter code image a b journal) i))
+    × ((m : ℕ) → m < needed code image a b
+    → (i : ℕ) × (a ≤ i) × (i < b) × (verdictOf code image i ≢ 0) × (needed code image a i ≡ m))
+    × (drop (entrySize dataSize * needed code image a b) (journalAfter code image a b journal)
+    ≡ drop (entrySize dataSize * needed code image a b) journal)
+
+-- Each count of a done pass is the number of the run's records with that verdict; the six add up to the run's length, the last five to
+-- the entries.
+abbrev pub PassCounts : Type 0
+PassCounts =
+    (code : Code) → Handed code → (image : List ℕ) (a b : ℕ) (journal : List ℕ) → Done code image a b journal
+    → let t = answerOf code image a b journal .tally in
+    (t ≡ tallyBy (λ v. countFrom code image v a (b - a)))
+    × (t .clean + t .«data» + t .check + t .even + t .odd + t .stray ≡ b - a)
+    × (needed code image a b ≡ t .«data» + t .check + t .even + t .odd + t .stray)
+
+-- Passing over a done run again finds every mended record clean and the others as before, and changes no byte of the image.
+abbrev pub PassAgain : Type 0
+PassAgain =
+    (code : Code) → Handed code → (image : List ℕ) (a b : ℕ) (journal : List ℕ) → Done code image a b journal
+    → let t = answerOf code image a b journal .tally in
+    let left = imageAfter code image a b journal in
+    (again : List ℕ) → t .even + t .odd + t .stray ≤ room again
+    → (answerOf code left a b again ≡ record { number = 0; told = 0; tally = tallyAgain t }) × (imageAfter code left a b again ≡ left)
+
+-- A pass over [a, b) and then one over [b, c), its journal going on behind the first's entries, are the pass over [a, c): done where it
+-- is, and where both are done, it is, with the tallies added, the same image, the same journal.
+abbrev pub PassInTwo : Type 0
+PassInTwo =
+    (code : Code) (image : List ℕ) (a b c : ℕ) (journal : List ℕ)
+    → let left = imageAfter code image a b journal in
+    let used = entrySize dataSize * needed code image a b in
+    let rest = drop used (journalAfter code image a b journal) in
+    (a ≤ b → b ≤ c → Done code image a c journal → Done code image a b journal × Done code left b c rest)
+    × (Done code image a b journal → Done code left b c rest
+    → (answerOf code image a c journal
+    ≡ record { number = 0; told = 0; tally = added (answerOf code image a b journal .tally) (answerOf code left b c rest .tally) })
+    × (imageAfter code image a c journal ≡ imageAfter code left b c rest)
+    × (journalAfter code image a c journal ≡ take used (journalAfter code image a b journal) ++ journalAfter code left b c rest))

@@ -1,0 +1,3 @@
+pub mod Partners
+pub mod Walk
+pub mod Cases

@@ -1,0 +1,4 @@
+pub mod Parts
+pub mod Strays
+pub mod Reading
+pub mod Writing

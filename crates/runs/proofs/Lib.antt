@@ -1,0 +1,9 @@
+pub mod Numbers
+pub mod Turned
+pub mod Records
+pub mod Entries
+pub mod Over
+pub mod Run
+pub mod Image
+pub mod Tallies
+pub mod Journal

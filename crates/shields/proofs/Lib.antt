@@ -1,0 +1,2 @@
+pub mod Flips
+pub mod Flagged

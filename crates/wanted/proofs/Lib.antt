@@ -1,0 +1,4 @@
+pub mod Bands
+pub mod Counting
+pub mod Room
+pub mod Least

@@ -1,0 +1,130 @@
+//! The worked cases of document 01: one text, tests/worked.txt, that any desk is asked. The text says what its lines mean.
+
+use crate::code::{ones, switches, Code};
+use crate::desk::Desk;
+use std::fmt::UpperHex;
+use std::str::FromStr;
+
+/// What buffers hold before a call.
+const FILL: u8 = 0xEE;
+
+/// What the questions are about, and the journal of the last pass.
+struct Worked {
+    code: Code,
+    image: Vec<u8>,
+    journal: Vec<u8>,
+}
+
+/// Puts every worked case to the desk: the lines of the text that come out otherwise, none if all is well.
+pub fn worked(desk: &dyn Desk) -> Vec<String> {
+    let mut worked = Worked { code: Code::of(&[], 0), image: Vec::new(), journal: Vec::new() };
+    let mut otherwise = Vec::new();
+    for line in include_str!("../../../tests/worked.txt").lines().filter(|line| !line.starts_with('#')) {
+        match line.split_once('=') {
+            Some((question, _)) => {
+                let answered = format!("{}={}", question, worked.ask(desk, question));
+                if answered != line {
+                    otherwise.push(answered);
+                }
+            }
+            None => worked.set(line),
+        }
+    }
+    otherwise
+}
+
+fn number<N: FromStr>(word: &str) -> N {
+    word.parse().unwrap_or_else(|_| panic!("{} is no number", word))
+}
+
+fn data(word: &str) -> u64 {
+    u64::from_str_radix(word, 16).unwrap_or_else(|_| panic!("{} is no data", word))
+}
+
+/// Numbers as they stand in an answer.
+fn said<N: ToString>(numbers: &[N]) -> String {
+    numbers.iter().map(|number| format!(" {}", number.to_string())).collect()
+}
+
+/// Bytes, or data, as they stand in an answer.
+fn hex<N: UpperHex>(numbers: &[N], width: usize) -> String {
+    numbers.iter().map(|number| format!(" {:0width$X}", number, width = width)).collect()
+}
+
+/// A filled buffer without the bytes at its end that stayed.
+fn changed(bytes: &[u8]) -> &[u8] {
+    let end = bytes.iter().rposition(|&byte| byte != FILL).map_or(0, |last| last + 1);
+    &bytes[..end]
+}
+
+impl Worked {
+    /// A line that says what the next questions are about.
+    fn set(&mut self, line: &str) {
+        let line = line.replace(':', " ");
+        match line.split_whitespace().collect::<Vec<&str>>()[..] {
+            [] => {}
+            ["code", k, r, ref columns @ ..] => {
+                let columns: Vec<u16> = columns.iter().map(|column| number(column)).collect();
+                self.code = Code { k: number(k), ..Code::of(&columns, number(r)) };
+            }
+            ["image", length, "bytes"] => self.image = vec![0; number(length)],
+            ["image", ref pairs @ ..] => {
+                let record =
+                    |pair: &[&str]| [&data(pair[0]).to_le_bytes()[..], &number::<u16>(pair[1]).to_le_bytes()].concat();
+                self.image = pairs.chunks(2).flat_map(record).collect();
+            }
+            _ => panic!("{:?} is about nothing", line),
+        }
+    }
+
+    /// What the desk answers to a question, with a space before each number.
+    fn ask(&mut self, desk: &dyn Desk, question: &str) -> String {
+        let code = &self.code;
+        match question.split_whitespace().collect::<Vec<&str>>()[..] {
+            ["wanted", from, to] => {
+                let mut answers: Vec<_> = (number(from)..=number(to)).map(|k| desk.wanted(k)).collect();
+                answers.dedup();
+                answers.iter().map(|a| said(&[a.number, a.check_bits])).collect()
+            }
+            ["judge"] => {
+                let a = desk.judge(code);
+                said(&[a.number, a.told])
+            }
+            ["ones"] => {
+                let data: usize = code.columns[..code.k].iter().map(|&column| ones(&switches(column.into(), 16))).sum();
+                said(&[data + code.r])
+            }
+            ["balance"] => {
+                let a = desk.row_balance(code);
+                said(&[a.number, a.told]) + &said(&a.rows)
+            }
+            ["write", d] => {
+                let a = desk.write(code, data(d));
+                said(&[a.number, a.told]) + &said(&[a.check])
+            }
+            ["syndrome", d, c] => said(&[desk.write(code, data(d)).check ^ number::<u16>(c)]),
+            ["read", d, c] => {
+                let a = desk.read(code, data(d), number(c));
+                said(&[a.number, a.told, a.verdict, a.place]) + &hex(&[a.data], 1) + &said(&[a.check])
+            }
+            ["explain", d, c, limit, room] => {
+                let mut list = [FILL; 80];
+                let a = desk.explain(code, data(d), number(c), number(limit), &mut list[..number::<usize>(room)]);
+                said(&[a.number, a.told, a.length]) + &said(changed(&list))
+            }
+            ["cards", b] => {
+                let a = desk.card_check(code, number(b));
+                said(&[a.number, a.told, a.card, a.mask])
+            }
+            ["pass", start, end, room] => {
+                self.journal = vec![FILL; 512];
+                let journal = &mut self.journal[..number::<usize>(room)];
+                let a = desk.pass(code, &mut self.image, number(start), number(end), journal);
+                said(&[a.number, a.told]) + &said(&a.tally)
+            }
+            ["left"] => hex(&self.image, 2),
+            ["noted"] => hex(changed(&self.journal), 2),
+            _ => panic!("{:?} is no question", question),
+        }
+    }
+}
