@@ -60,5 +60,14 @@ int main(void) {
     FIELD(PassAnswer, number);
     FIELD(PassAnswer, told);
     FIELD(PassAnswer, tally);
+    STRUCT(Sheet);
+    FIELD(Sheet, device);
+    FIELD(Sheet, station);
+    FIELD(Sheet, share);
+    STRUCT(SheetAnswer);
+    FIELD(SheetAnswer, number);
+    FIELD(SheetAnswer, told);
+    FIELD(SheetAnswer, yes);
+    FIELD(SheetAnswer, sheet);
     return 0;
 }

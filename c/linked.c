@@ -2,6 +2,9 @@
 #include "cases.h"
 #include "codes.h"
 
+#include <float.h>
+#include <math.h>
+
 /* 17 columns with 16 check bits: no two rows have the same balance. */
 static DeskCode sixteen_rows(void) {
     static const uint16_t columns[] = {0xAF08, 0xD0C0, 0xDE02, 0xE868, 0xEB04, 0xEE10, 0xF680, 0xF6A8, 0xF970,
@@ -181,6 +184,63 @@ static void refusals_leave_buffers(void) {
     expect("refused by 14: image and journal stay", image_stays(sample(), 210, 0, 22, 480, DESK_RUN));
 }
 
+/* Whether a sheet is this one, bit by bit: the sign of a zero counts. */
+static int same_sheet(DeskSheetAnswer a, size_t number, bool yes, double device, double station, double share) {
+    const double figures[] = {device, station, share};
+    return a.number == number && a.told == 0 && a.yes == yes && memcmp(&a.sheet, figures, sizeof figures) == 0;
+}
+
+/* Whether every question that has this figure for its hours, or for a limit's, is refused. */
+static int refuses_figure(double figure, int for_hours, int for_limit) {
+    int refused = 1;
+    if (for_hours) {
+        refused &= same_sheet(desk_sheet_ceiling(figure, 2, 4, 3, 1), DESK_SHEET, false, 0, 0, 0);
+        refused &= same_sheet(desk_sheet_band(figure, 2, 4, 3, 0, 1), DESK_SHEET, false, 0, 0, 0);
+        refused &= same_sheet(desk_sheet_open(figure, 2, 4, 3), DESK_SHEET, false, 0, 0, 0);
+    }
+    if (for_limit) {
+        refused &= same_sheet(desk_sheet_ceiling(6, 2, 4, 3, figure), DESK_SHEET, false, 0, 0, 0);
+        refused &= same_sheet(desk_sheet_band(6, 2, 4, 3, figure, 1), DESK_SHEET, false, 0, 0, 0);
+        refused &= same_sheet(desk_sheet_band(6, 2, 4, 3, 0, figure), DESK_SHEET, false, 0, 0, 0);
+    }
+    return refused;
+}
+
+static void sheet_fields(void) {
+    expect("desk_sheet_open: every field", same_sheet(desk_sheet_open(6, 4, 8, 1), 0, true, 6, 1.5, 0.125));
+    expect("desk_sheet_ceiling: its end is inside",
+           same_sheet(desk_sheet_ceiling(6, 4, 8, 1, 0.125), 0, true, 6, 1.5, 0.125));
+    expect("desk_sheet_ceiling: no", same_sheet(desk_sheet_ceiling(6, 4, 8, 1, 0.1), 0, false, 6, 1.5, 0.125));
+    expect("desk_sheet_band: its ends are inside",
+           same_sheet(desk_sheet_band(6, 4, 8, 1, 0.125, 0.125), 0, true, 6, 1.5, 0.125));
+    expect("desk_sheet_band: no, below", same_sheet(desk_sheet_band(6, 4, 8, 1, 0.2, 0.3), 0, false, 6, 1.5, 0.125));
+    expect("desk_sheet_band: no, above", same_sheet(desk_sheet_band(6, 4, 8, 1, 0, 0.1), 0, false, 6, 1.5, 0.125));
+    expect("desk_sheet_open: rounded once", desk_sheet_open(1, 1, 3, 1).sheet.share == 1.0 / 3.0);
+    expect("desk_sheet_open: the smallest hours over two devices are 0",
+           same_sheet(desk_sheet_open(DBL_TRUE_MIN, 2, 1, 1), 0, true, DBL_TRUE_MIN, 0, 1));
+    expect("desk_sheet_ceiling: minus zero is a figure",
+           same_sheet(desk_sheet_ceiling(6, 4, 8, 0, -0.0), 0, true, 6, 1.5, 0));
+}
+
+static void sheet_refusals(void) {
+    expect("refused by 19: an infinity", refuses_figure(INFINITY, 1, 1) && refuses_figure(-INFINITY, 1, 1));
+    expect("refused by 19: a NaN", refuses_figure(NAN, 1, 1) && refuses_figure(-NAN, 1, 1));
+    expect("refused by 19: below zero", refuses_figure(-1, 1, 1) && refuses_figure(-DBL_TRUE_MIN, 1, 1));
+    expect("refused by 19: hours of zero", refuses_figure(0, 1, 0) && refuses_figure(-0.0, 1, 0));
+    static const size_t counts[] = {0, 65536, 65537, (size_t)1 << 32, SIZE_MAX};
+    int refused = 1;
+    for (size_t i = 0; i < sizeof counts / sizeof counts[0]; i++) {
+        refused &= same_sheet(desk_sheet_open(6, counts[i], 8, 1), DESK_SHEET, false, 0, 0, 0);
+        refused &= same_sheet(desk_sheet_open(6, 4, counts[i], 0), DESK_SHEET, false, 0, 0, 0);
+    }
+    expect("refused by 19: counts", refused);
+    expect("refused by 19: mended above words", same_sheet(desk_sheet_open(6, 4, 8, 9), DESK_SHEET, false, 0, 0, 0));
+    expect("refused by 19: a band upside down",
+           same_sheet(desk_sheet_band(6, 4, 8, 1, 0.2, 0.1), DESK_SHEET, false, 0, 0, 0));
+    expect("done: 65,535 devices and words",
+           same_sheet(desk_sheet_open(65535, 65535, 65535, 65535), 0, true, 65535, 1, 1));
+}
+
 int main(void) {
     version();
     code_fields();
@@ -190,5 +250,7 @@ int main(void) {
     pass_fields();
     longest_image();
     refusals_leave_buffers();
+    sheet_fields();
+    sheet_refusals();
     return finish();
 }

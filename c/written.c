@@ -21,6 +21,9 @@ void desk_explain(void *answer, Code code, uint64_t data, uint16_t check, size_t
 void desk_cards(void *answer, Code code, size_t b);
 void desk_pass(void *answer, Code code, uint8_t *image, size_t image_length, size_t start, size_t end, uint8_t *journal,
                size_t journal_length);
+void desk_sheet_ceiling(void *answer, double hours, size_t devices, size_t words, size_t mended, double high);
+void desk_sheet_band(void *answer, double hours, size_t devices, size_t words, size_t mended, double low, double high);
+void desk_sheet_open(void *answer, double hours, size_t devices, size_t words, size_t mended);
 
 static const Code sample = {.columns = {28, 26, 25, 22, 21, 19, 14, 13}, .k = 8, .r = 5};
 
@@ -40,10 +43,14 @@ static void pass_to(void *answer) {
     desk_pass(answer, sample, image, sizeof image, 0, 2, journal, sizeof journal);
 }
 
+static void ceiling_to(void *answer) { desk_sheet_ceiling(answer, 667, 8192, 4, 1, 0.5); }
+static void band_to(void *answer) { desk_sheet_band(answer, 667, 8192, 4, 1, 0.5, 1); }
+static void open_to(void *answer) { desk_sheet_open(answer, 0, 8192, 4, 1); }
+
 enum { GUARD = 64, LARGEST = 80 };
 
-/* Whether all of the first `used` bytes of the answer are written, and nothing outside its `size` bytes. */
-static int writes_only(void (*call)(void *), size_t used, size_t size) {
+/* Whether all bytes of the answer from `from` up to `to` are written, and nothing outside its `size` bytes. */
+static int writes_only(void (*call)(void *), size_t from, size_t to, size_t size) {
     uint64_t low[(GUARD + LARGEST + GUARD) / 8], high[(GUARD + LARGEST + GUARD) / 8];
     memset(low, 0x00, sizeof low);
     memset(high, 0xFF, sizeof high);
@@ -52,7 +59,7 @@ static int writes_only(void (*call)(void *), size_t used, size_t size) {
     call(high_bytes + GUARD);
     for (size_t i = 0; i < sizeof low; i++) {
         int is_written = low_bytes[i] == high_bytes[i];
-        int is_field = i >= GUARD && i < GUARD + used;
+        int is_field = i >= GUARD + from && i < GUARD + to;
         int is_outside = i < GUARD || i >= GUARD + size;
         if ((is_field && !is_written) || (is_outside && is_written)) {
             return 0;
@@ -61,12 +68,20 @@ static int writes_only(void (*call)(void *), size_t used, size_t size) {
     return 1;
 }
 
+/* The fields of a sheet's answer: 17 bytes, and 24 behind a gap of 7. */
+static int writes_sheet(void (*call)(void *)) {
+    return writes_only(call, 0, 17, 48) && writes_only(call, 24, 48, 48);
+}
+
 int main(void) {
-    expect("desk_row_balance writes all 80 bytes of its answer, and no other", writes_only(balance_to, 80, 80));
-    expect("desk_write writes 18 bytes of its 24, and no other", writes_only(write_to, 18, 24));
-    expect("desk_read writes 42 bytes of its 48, and no other", writes_only(read_to, 42, 48));
-    expect("desk_explain writes all 24 bytes of its answer, and no other", writes_only(explain_to, 24, 24));
-    expect("desk_cards writes all 32 bytes of its answer, and no other", writes_only(cards_to, 32, 32));
-    expect("desk_pass writes 28 bytes of its 32, and no other", writes_only(pass_to, 28, 32));
+    expect("desk_row_balance writes all 80 bytes of its answer, and no other", writes_only(balance_to, 0, 80, 80));
+    expect("desk_write writes 18 bytes of its 24, and no other", writes_only(write_to, 0, 18, 24));
+    expect("desk_read writes 42 bytes of its 48, and no other", writes_only(read_to, 0, 42, 48));
+    expect("desk_explain writes all 24 bytes of its answer, and no other", writes_only(explain_to, 0, 24, 24));
+    expect("desk_cards writes all 32 bytes of its answer, and no other", writes_only(cards_to, 0, 32, 32));
+    expect("desk_pass writes 28 bytes of its 32, and no other", writes_only(pass_to, 0, 28, 32));
+    expect("desk_sheet_ceiling writes its fields, and no other", writes_sheet(ceiling_to));
+    expect("desk_sheet_band writes its fields, and no other", writes_sheet(band_to));
+    expect("desk_sheet_open writes its fields where it refuses too, and no other", writes_sheet(open_to));
     return finish();
 }

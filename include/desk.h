@@ -2,17 +2,20 @@
  * The mending desk for callers in C and C++: one function for each question.
  *
  * Link target/staticlib/libdesk.a (x86-64, System V). It needs memcpy and memset, and nothing of the system.
- * Every function is total: it answers any code and any numbers. A code is judged first, by every call.
+ * Every function is total: it answers any code and any numbers, of doubles every bit pattern. A code is judged first,
+ * by every call that has one.
  *
  * Answers. `number` is 0 (done) or the number of the refusal, and `told` is what goes with that number in the table
  * below, else 0. Number 9 tells two values, in fields of their own. DeskCheckBits tells nothing, and has no `told`.
- * A refusal has 0 in every other field and changes no byte that was lent. Answers have padding, whose bytes may be
- * anything: compare fields, and not the whole by memcmp.
+ * A refusal has 0 in every other field, so `yes` is false, and changes no byte that was lent. Answers have padding,
+ * whose bytes may be anything: compare fields, and not the whole by memcmp.
  *
  * What is counted. `list_length`, `image_length` and `journal_length` are bytes. Nothing else is:
  *   start, end  records, from the image's first; the record at `end` is not in the run
  *   length      entries of the list, two bytes each
  *   told        with 3 to 6 a place, with 10 entries of the list, with 13 entries of the journal, DESK_ENTRY bytes each
+ *
+ * Figures. `hours`, and `device` and `station` of a sheet, are hours. `share`, `low` and `high` are parts of 1.
  *
  * Lent buffers. Each must be valid for its length, to read and to write. Those that one call is lent must not overlap:
  * not image and journal, nor any other two. What happens if they do is unspecified. With length 0 nothing is read or
@@ -23,6 +26,7 @@
 #ifndef DESK_H
 #define DESK_H
 
+#include <stdbool.h>
 #include <stddef.h>
 #include <stdint.h>
 
@@ -61,6 +65,9 @@ enum DeskNumber {
     DESK_IMAGE_LENGTH = 12,   /* image length no multiple of 10, or over 65,530 */
     DESK_JOURNAL_ROOM = 13,   /* journal room (its length / 24, down) below the entries needed; told: entries needed */
     DESK_RUN = 14,            /* run's start above its end, or its end above the number of records */
+    DESK_SHEET = 19,          /* device count 0 or over 65,535, word count 0 or over 65,535, mended above words, hours
+                                 not finite or not above zero, a limit's figure not finite or below zero, a band upside
+                                 down */
 };
 
 /* The field `verdict` of a reading, the third byte of a journal entry, and the order of a tally. */
@@ -156,6 +163,21 @@ typedef struct DeskPassAnswer {
     DeskTally tally;
 } DeskPassAnswer;
 
+/* A station sheet. Hours per station may be 0: the quotient is rounded once, to the nearest double. */
+typedef struct DeskSheet {
+    double device;  /* hours per device, as given */
+    double station; /* hours per station: hours per device / devices */
+    double share;   /* the share of words mended: mended / words, from 0 to 1 */
+} DeskSheet;
+
+/* The answer of desk_sheet_ceiling, desk_sheet_band and desk_sheet_open: no and three zeros where it is refused. */
+typedef struct DeskSheetAnswer {
+    size_t number;
+    size_t told;
+    bool yes;
+    DeskSheet sheet;
+} DeskSheetAnswer;
+
 /* The version of the archive: DESK_VERSION of the header that goes with it. */
 size_t desk_version(void);
 
@@ -183,6 +205,23 @@ DeskCardCheck desk_cards(DeskCode code, size_t b);
 /* Mends the records from `start` up to but not `end` and notes each that is not clean; refuses with 12, 14, 13. */
 DeskPassAnswer desk_pass(DeskCode code, uint8_t *image, size_t image_length, size_t start, size_t end, uint8_t *journal,
                          size_t journal_length);
+
+/*
+ * The sheet of a station from its hours per device and the counts of its devices, of its words and of those mended. It
+ * is yes exactly when the share is within the house limit, whose ends are inside; all three refuse with 19 alone, which
+ * tells nothing. A NaN or an infinity is not finite. Minus zero is not below zero, so it may be a limit's figure; it is
+ * not above zero, so it cannot be hours. A ceiling may be above 1, and a band's ends may be equal. Floats must round to
+ * nearest and keep subnormals, as a program starts out.
+ */
+
+/* The limit is a ceiling: share <= high. */
+DeskSheetAnswer desk_sheet_ceiling(double hours, size_t devices, size_t words, size_t mended, double high);
+
+/* The limit is a band: low <= share and share <= high. */
+DeskSheetAnswer desk_sheet_band(double hours, size_t devices, size_t words, size_t mended, double low, double high);
+
+/* There is no limit: yes. */
+DeskSheetAnswer desk_sheet_open(double hours, size_t devices, size_t words, size_t mended);
 
 #ifdef __cplusplus
 }

@@ -7,6 +7,7 @@ use Rattle.demands.proofs.OfWords as words
 use Rattle.demands.proofs.OfLists as lists
 use Rattle.demands.proofs.OfCards as cards
 use Rattle.demands.proofs.OfPasses as passes
+use Rattle.demands.proofs.OfSheets as sheets
 
 pub sizes : demands.Sizes
 sizes = tallies.sizes
@@ -143,3 +144,29 @@ pass-again = passes.pass-again
 
 pub pass-in-two : demands.PassInTwo
 pass-in-two = passes.pass-in-two
+
+-- ---- station sheets
+
+pub sheet-refuses : demands.SheetRefuses
+sheet-refuses = sheets.sheet-refuses
+
+pub sheet-made : demands.SheetMade
+sheet-made = sheets.sheet-made
+
+pub sheet-yes : demands.SheetYes
+sheet-yes = sheets.sheet-yes
+
+pub counts-exact : demands.CountsExact
+counts-exact = sheets.counts-exact
+
+pub share-nearest : demands.ShareNearest
+share-nearest = sheets.share-nearest
+
+pub share-between : demands.ShareBetween
+share-between = sheets.share-between
+
+pub share-ends : demands.ShareEnds
+share-ends = sheets.share-ends
+
+pub station-nearest : demands.StationNearest
+station-nearest = sheets.station-nearest

@@ -7,4 +7,5 @@ pub mod OfLists
 pub mod OfCards
 pub mod OfTallies
 pub mod OfPasses
+pub mod OfSheets
 pub mod Demands

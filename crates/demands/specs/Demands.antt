@@ -1,14 +1,19 @@
 -- THE DEMANDS: what the desk promises of its exported functions, each a named proposition, proved in proofs/Demands.antt. Numbers, values
 -- and words are document 01's. Definitions.antt beside this page has the words used here, crate desk's Answers.antt what each function
--- answers. In order: records and entries; the code; writing and reading one word; explanations; cards; the tally; the pass. Assumes nothing.
+-- answers. In order: records and entries; the code; writing and reading one word; explanations; cards; the tally; the pass;
+-- station sheets (02's request 107; their words in Sheets.antt). Assumes nothing.
 use mathlib.Core.Path.{_≡_}
 use mathlib.Core.Logic.{_≢_, _⊎_, _↔_}
-use mathlib.Core.Bool.{cond}
+use mathlib.Core.Bool.{true, false, cond}
 use mathlib.Core.List.{List, [], _∷_, _++_, List·Memᴰ}
 use Prim.Native.Nat.{ℕ, _+_, _-_, _*_, _/_, _^_, _≤_, _<_, min, max}
 use lib.Bits.{bitXor}
 use lib.Count.{ones}
 use lib.Dec.{eqb, ltb}
+use lib.Ieee as Ieee
+use lib.Ieee.{binary64}
+use lib.Ieee.Exact.{HasValue}
+use lib.Ieee.Positive.{num, den}
 use lib.IntN.{pos, _+ℤ_}
 use lib.ListN.{length, getD, take, drop}
 use Rattle.parity.specs.Odd.{oddOnes}
@@ -28,12 +33,16 @@ use Rattle.cards.specs.Cards.{cardAt}
 use Rattle.cards.specs.Rule.{CardProof, FirstWeak, flipMask}
 use Rattle.pass.specs.Asked.{Image, NoImage, Run, NoRun}
 use Rattle.passes.specs.Twice.{added, tallyAgain}
+use Rattle.sheet.specs.Sheets.{Asked}
+use Rattle.sheet.specs.Rule.{NoSheet, Stands, Within}
+use Rattle.sheets.specs.Nearest.{zeroFloat, oneFloat, Held, NearestOnly}
 use Rattle.desk.specs.Answers.{checkBitsOf, judgementOf, rowsOf, writtenOf, readOf, explainedOf, cardsOf}
 use Rattle.demands.specs.Definitions.{Handed, Stored, Accepted, Refused, dataColumns, placesOf, Unstrayed, read, HandsBack, Clean}
 use Rattle.demands.specs.Definitions.{explanations, explanationsOf, told, onlyNumber, refusedRows, refusedWriting, refusedReading, refusedListing}
 use Rattle.demands.specs.Definitions.{refusedCards, allZero, PassRefused, recordOf, entryAt, room, needed, readAt, verdictOf, placeFor}
 use Rattle.demands.specs.Definitions.{answerOf, imageAfter, journalAfter, Done, countFrom}
 use Rattle.demands.specs.Definitions as words
+use Rattle.demands.specs.Sheets.{sheetFor, noFigures}
 
 -- ---- records and entries
 
@@ -406,3 +415,57 @@ PassInTwo =
     ≡ record { number = 0; told = 0; tally = added (answerOf code image a b journal .tally) (answerOf code left b c rest .tally) })
     × (imageAfter code image a c journal ≡ imageAfter code left b c rest)
     × (journalAfter code image a c journal ≡ take used (journalAfter code image a b journal) ++ journalAfter code left b c rest))
+
+-- ---- station sheets
+
+-- Refusal 19, exactly when one of its reasons holds; it tells nothing, and gives no and three zeros.
+abbrev pub SheetRefuses : Type 0
+SheetRefuses =
+    (q : Asked)
+    → ((sheetFor q .number ≡ 19) ↔ NoSheet q)
+    × (NoSheet q → sheetFor q ≡ record { number = 19; told = 0; yes = false; sheet = noFigures })
+
+-- Done, exactly when none does; nothing is told, and hours per device are as given.
+abbrev pub SheetMade : Type 0
+SheetMade =
+    (q : Asked)
+    → ((sheetFor q .number ≡ 0) ↔ Stands q)
+    × (Stands q → (sheetFor q .told ≡ 0) × (sheetFor q .sheet .device ≡ q .hours))
+
+-- Yes exactly when the sheet is made and the float comparison of its share held.
+abbrev pub SheetYes : Type 0
+SheetYes = (q : Asked) → (sheetFor q .yes ≡ true) ↔ (Stands q × Within (q .limit) (sheetFor q .sheet .share))
+
+-- Counts become floats exactly.
+abbrev pub CountsExact : Type 0
+CountsExact = (n : ℕ) → n ≤ 65535 → HasValue (Ieee.ofInt binary64 (pos n)) false n 1
+
+-- The share is the float nearest to mended / words: the exact quotient, rounded once.
+abbrev pub ShareNearest : Type 0
+ShareNearest =
+    (q : Asked) → Stands q
+    → let share = sheetFor q .sheet .share in
+    (share ≡ Ieee.round binary64 false (q .mended) (q .words)) × NearestOnly binary64 share (q .mended) (q .words)
+
+-- It lies between 0 and 1.
+abbrev pub ShareBetween : Type 0
+ShareBetween =
+    (q : Asked) → Stands q
+    → let share = sheetFor q .sheet .share in
+    (Ieee.le zeroFloat share ≡ true) × (Ieee.le share oneFloat ≡ true)
+
+-- 0 mended gives exactly 0, and all mended exactly 1.
+abbrev pub ShareEnds : Type 0
+ShareEnds =
+    (q : Asked) → Stands q
+    → let share = sheetFor q .sheet .share in
+    (q .mended ≡ 0 → share ≡ zeroFloat) × (q .mended ≡ q .words → share ≡ oneFloat)
+
+-- Hours per station is the float nearest to hours / devices: the exact quotient, rounded once. Hours, a value of f64, are num / den.
+abbrev pub StationNearest : Type 0
+StationNearest =
+    (q : Asked) → Held binary64 (q .hours) → Stands q
+    → let station = sheetFor q .sheet .station in
+    let above = num (q .hours) in
+    let below = den (q .hours) * q .devices in
+    (station ≡ Ieee.round binary64 false above below) × NearestOnly binary64 station above below

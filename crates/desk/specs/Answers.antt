@@ -1,6 +1,7 @@
--- What each exported function answers: the question that its layer defines, asked of the opened code. Assumes nothing.
+-- What each exported function answers: the question that its layer defines, asked of the opened code; a sheet has none. Assumes nothing.
 use mathlib.Core.List.{List}
 use Prim.Native.Nat.{ℕ}
+use lib.Ieee.{Float}
 use Rattle.code.specs.declared.Code.{Code}
 use Rattle.code.specs.declared.Refusal.{Refusal}
 use Rattle.code.specs.Opened.{judgementIn, openedOf}
@@ -18,6 +19,9 @@ use Rattle.explain.specs.Explanations.{Explained, explainOf}
 use Rattle.cards.specs.declared.CardCheck.{CardCheck}
 use Rattle.cards.specs.Checking.{cardedOf}
 use Rattle.pass.specs.Pass.{After, afterPass}
+use Rattle.sheet.specs.declared.SheetAnswer.{SheetAnswer}
+use Rattle.sheet.specs.declared.Limit.the-variants.{Ceiling, Band, Open}
+use Rattle.sheet.specs.Sheets.{asked, sheetOf}
 use Rattle.desk.specs.declared.ReadWord.{ReadWord}
 
 -- the version of what a caller links: raised by each landing that changes a struct, a size or a meaning
@@ -64,3 +68,13 @@ cardsOf code b = cardedOf (openedOf code) b
 -- over the run from a up to b: the answer, and image and journal afterwards
 abbrev pub passedOf : Code → List ℕ → ℕ → ℕ → List ℕ → After
 passedOf code image a b journal = afterPass (openedOf code) dataSize image a b journal
+
+-- a station's sheet: a function for each kind of limit
+abbrev pub ceilingSheet : Float → ℕ → ℕ → ℕ → Float → SheetAnswer
+ceilingSheet hours devices words mended high = sheetOf (asked hours devices words mended (Ceiling high))
+
+abbrev pub bandSheet : Float → ℕ → ℕ → ℕ → Float → Float → SheetAnswer
+bandSheet hours devices words mended low high = sheetOf (asked hours devices words mended (Band low high))
+
+abbrev pub openSheet : Float → ℕ → ℕ → ℕ → SheetAnswer
+openSheet hours devices words mended = sheetOf (asked hours devices words mended Open)

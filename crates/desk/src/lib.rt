@@ -1,6 +1,7 @@
 // What a caller outside links: one function for each question, total, each answer a struct by value.
 ghost use mathlib.Core.Path.{_≡_};
 ghost use Rattle.desk.specs.Answers.{version, checkBitsOf, judgementOf, rowsOf, writtenOf, readOf, explainedOf, cardsOf, passedOf};
+ghost use Rattle.desk.specs.Answers.{ceilingSheet, bandSheet, openSheet};
 use balance::RowBalance;
 use cards::CardCheck;
 use code::Code;
@@ -8,6 +9,8 @@ use code::Refusal;
 use explain::Listing;
 use pass::PassAnswer;
 use record::DATA;
+use sheet::Limit;
+use sheet::SheetAnswer;
 use wanted::CheckBits;
 use word::CheckWord;
 use word::Word;
@@ -128,4 +131,46 @@ pub extern "C" fn desk_pass(
     ensures { λ _. ⌜ now (journal .exit) ≡ passedOf code (now (image .entry)) start end (now (journal .entry)) .journal ⌝ }
 {
     pass::pass(code::open_code(code), DATA, image, start, end, journal)
+}
+
+// A station's sheet, judged against a ceiling: the number, yes or no, and the three figures.
+#[no_mangle]
+pub extern "C" fn desk_sheet_ceiling(
+    hours: f64,
+    devices: usize,
+    words: usize,
+    mended: usize,
+    high: f64,
+) -> SheetAnswer
+    ensures { λ a. ⌜ a ≡ ceilingSheet hours devices words mended high ⌝ }
+{
+    sheet::sheet_of(hours, devices, words, mended, Limit::Ceiling(high))
+}
+
+// A station's sheet, judged against a band.
+#[no_mangle]
+pub extern "C" fn desk_sheet_band(
+    hours: f64,
+    devices: usize,
+    words: usize,
+    mended: usize,
+    low: f64,
+    high: f64,
+) -> SheetAnswer
+    ensures { λ a. ⌜ a ≡ bandSheet hours devices words mended low high ⌝ }
+{
+    sheet::sheet_of(hours, devices, words, mended, Limit::Band(low, high))
+}
+
+// A station's sheet with no limit.
+#[no_mangle]
+pub extern "C" fn desk_sheet_open(
+    hours: f64,
+    devices: usize,
+    words: usize,
+    mended: usize,
+) -> SheetAnswer
+    ensures { λ a. ⌜ a ≡ openSheet hours devices words mended ⌝ }
+{
+    sheet::sheet_of(hours, devices, words, mended, Limit::Open)
 }

@@ -3,6 +3,7 @@
 use crate::program;
 use desk::{ffi, Word};
 use second::{Balanced, CardsChecked, Code, Desk, Explained, Judged, Passed, Reading, Refusal, Wanted, Written};
+use second::{Limit, Sheeted, Station};
 
 /// The same code for the linked desk.
 fn linked(code: &Code) -> desk::Code {
@@ -12,6 +13,12 @@ fn linked(code: &Code) -> desk::Code {
 /// The counts of a tally in the order of verdicts.
 fn counts(tally: desk::Tally) -> [usize; 6] {
     [tally.clean, tally.data, tally.check, tally.even, tally.odd, tally.stray].map(usize::from)
+}
+
+/// A sheet with the bits of its figures.
+fn in_bits(yes: bool, sheet: desk::Sheet) -> Sheeted {
+    let [device, station, share] = [sheet.device, sheet.station, sheet.share].map(f64::to_bits);
+    Sheeted { number: 0, told: 0, yes, device, station, share }
 }
 
 /// The archive: every field of every answer, refused ones too.
@@ -60,6 +67,17 @@ impl Desk for Archive {
     fn pass(&self, code: &Code, image: &mut [u8], start: usize, end: usize, journal: &mut [u8]) -> Passed {
         let ffi::PassAnswer { number, told, tally } = ffi::pass(&linked(code), image, start, end, journal);
         Passed { number, told, tally: counts(tally) }
+    }
+
+    fn sheet(&self, asked: &Station) -> Sheeted {
+        let Station { hours, devices, words, mended, limit } = *asked;
+        let (hours, figure) = (f64::from_bits(hours), f64::from_bits);
+        let ffi::SheetAnswer { number, told, yes, sheet } = match limit {
+            Limit::Ceiling(high) => ffi::sheet_ceiling(hours, devices, words, mended, figure(high)),
+            Limit::Band(low, high) => ffi::sheet_band(hours, devices, words, mended, figure(low), figure(high)),
+            Limit::Open => ffi::sheet_open(hours, devices, words, mended),
+        };
+        Sheeted { number, told, ..in_bits(yes, sheet) }
     }
 
     fn mend(&self, input: &[u8]) -> String {
@@ -129,6 +147,18 @@ impl Desk for Wrapper {
     fn pass(&self, code: &Code, image: &mut [u8], start: usize, end: usize, journal: &mut [u8]) -> Passed {
         let done = |tally| Passed { tally: counts(tally), ..Passed::default() };
         linked(code).pass(image, start..end, journal).map_or_else(|refusal| refused(refusal).into(), done)
+    }
+
+    fn sheet(&self, asked: &Station) -> Sheeted {
+        let Station { hours, devices, words, mended, limit } = *asked;
+        let limit = match limit {
+            Limit::Ceiling(high) => desk::Limit::Ceiling(f64::from_bits(high)),
+            Limit::Band(low, high) => desk::Limit::Band { low: f64::from_bits(low), high: f64::from_bits(high) },
+            Limit::Open => desk::Limit::Open,
+        };
+        let station = desk::Station { hours: f64::from_bits(hours), devices, words, mended };
+        let done = |judged: desk::JudgedSheet| in_bits(judged.yes, judged.sheet);
+        station.sheet(limit).map_or_else(|refusal| refused(refusal).into(), done)
     }
 
     fn mend(&self, input: &[u8]) -> String {

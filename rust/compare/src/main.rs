@@ -1,6 +1,7 @@
 //! The comparison: the same cases to the second program and to the linked desk, every number and every byte.
 //!
-//! `compare gate`: every question of the archive, by its own numbers and through the wrapper.
+//! `compare gate`: every question of the archive, by its own numbers and through the wrapper; each refusal must be met at
+//! least a hundred times.
 //! `compare mend`: the program, on whole images.
 //! `--times N` goes over the gate's amounts N times, each from a seed of its own; `--seed S` names the first seed.
 
@@ -9,10 +10,20 @@ mod program;
 
 use desks::{Archive, Wrapper};
 use second::{compare, Amounts, Desk, Second};
+use std::collections::BTreeMap;
 use std::process;
 use std::time::Instant;
 
 const USAGE: &str = "compare gate | mend  [--times N] [--seed S]";
+
+/// How often the gate meets each refusal at least.
+const OFTEN: usize = 100;
+
+/// The refusals that the desk has: the numbers of docs/refusals.txt.
+fn refusals() -> impl Iterator<Item = usize> {
+    let first = |line: &str| line.split('|').next().and_then(|number| number.trim().parse().ok());
+    include_str!("../../../docs/refusals.txt").lines().filter_map(first)
+}
 
 /// What is asked on the command line.
 struct Asked {
@@ -34,11 +45,12 @@ fn asked(mut words: impl Iterator<Item = String>) -> Option<Asked> {
     Some(asked)
 }
 
-/// How many cases agreed, and how many did not.
+/// How many cases agreed, how many did not, and how often each number was answered.
 #[derive(Default)]
 struct Counts {
     passed: usize,
     failed: usize,
+    met: BTreeMap<usize, usize>,
 }
 
 impl Counts {
@@ -49,6 +61,9 @@ impl Counts {
                 for line in lines.iter().filter(|line| wanted(line.question)) {
                     println!("{}", line);
                     self.passed += line.cases;
+                    for (&number, &count) in &line.numbers {
+                        *self.met.entry(number).or_insert(0) += count;
+                    }
                 }
             }
             Err(difference) => {
@@ -78,6 +93,11 @@ fn gate(asked: &Asked, counts: &mut Counts) {
         let amounts = Amounts { seed, inputs: 0, ..Amounts::GATE };
         counts.compare(&desks, &amounts, |question| question != "mend");
     }
+    for number in refusals() {
+        let met = counts.met.get(&number).copied().unwrap_or(0);
+        let often = if met < OFTEN { "seldom" } else { "often" };
+        counts.expect(&format!("refusal {} is met {} times", number, met), often, "often");
+    }
 }
 
 /// The program on the worked image, on edges, and on whole images.
@@ -94,7 +114,7 @@ fn mend(asked: &Asked, counts: &mut Counts) {
         let input = vec![0; bytes];
         counts.expect(&format!("mend: {} bytes of 0", bytes), &program::mend(&input), &second::mend(&input));
     }
-    let none = Amounts { codes: 0, words: 0, lists: 0, cards: 0, images: 0, ..Amounts::GATE };
+    let none = Amounts { codes: 0, words: 0, lists: 0, cards: 0, images: 0, sheets: 0, ..Amounts::GATE };
     for seed in asked.seed..asked.seed + asked.times {
         println!("seed {}: second, program", seed);
         counts.compare(&[&Second, &Archive], &Amounts { seed, ..none }, |question| question == "mend");

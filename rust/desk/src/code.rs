@@ -5,7 +5,7 @@ use crate::{ffi, Code, Explanation, Reading, Refusal, Tally, Verdict, Word, LONG
 use std::ops::Range;
 
 /// The answer where the number is 0, else the refusal that these numbers are.
-fn done<T>(number: usize, told: usize, answer: T) -> Result<T, Refusal> {
+pub(crate) fn done<T>(number: usize, told: usize, answer: T) -> Result<T, Refusal> {
     Refusal::of(Plain { number, told, ..Plain::default() }).map_or(Ok(answer), Err)
 }
 

@@ -2,7 +2,7 @@
 //!
 //! `include/desk.h` says the same for C. In every answer `number` is 0 (done) or the number of the refusal, and `told`
 //! is what [`Refusal`](crate::Refusal) has with that number, else 0. A refusal has 0 in every other field (9 has its card
-//! and mask) and changes no byte that was lent. Calls share no state, and may run on any thread.
+//! and mask, and 19 says no) and changes no byte that was lent. Calls share no state, and may run on any thread.
 //!
 //! This is the only module with `unsafe`.
 #![allow(unsafe_code)]
@@ -141,6 +141,32 @@ pub struct PassAnswer {
     pub tally: Tally,
 }
 
+/// A station sheet.
+#[repr(C)]
+#[derive(Clone, Copy, PartialEq, Debug, Default)]
+pub struct Sheet {
+    /// Hours per device, as given.
+    pub device: f64,
+    /// Hours per station: hours per device / devices, rounded once. It may round to 0.
+    pub station: f64,
+    /// The share of words mended: mended / words, rounded once, from 0 to 1.
+    pub share: f64,
+}
+
+/// The answer of [`sheet_ceiling`], [`sheet_band`] and [`sheet_open`].
+#[repr(C)]
+#[derive(Clone, Copy, PartialEq, Debug, Default)]
+pub struct SheetAnswer {
+    /// 0, or the number of the refusal, which is 19.
+    pub number: usize,
+    /// What goes with the number: 0.
+    pub told: usize,
+    /// Whether the share is within the limit.
+    pub yes: bool,
+    /// The three figures.
+    pub sheet: Sheet,
+}
+
 extern "C" {
     fn desk_version() -> usize;
     fn desk_check_bits(k: usize) -> CheckBits;
@@ -159,12 +185,16 @@ extern "C" {
         journal: *mut u8,
         journal_length: usize,
     ) -> PassAnswer;
+    fn desk_sheet_ceiling(hours: f64, devices: usize, words: usize, mended: usize, high: f64) -> SheetAnswer;
+    fn desk_sheet_band(hours: f64, devices: usize, words: usize, mended: usize, low: f64, high: f64) -> SheetAnswer;
+    fn desk_sheet_open(hours: f64, devices: usize, words: usize, mended: usize) -> SheetAnswer;
 }
 
 /// Asks the archive, once it is known to be of this crate's version.
 ///
-/// Why this is safe: the declarations are those of that version; each function is total and asks nothing of its numbers;
-/// a lent slice is live, its length is its own, and two slices lent at once are apart because both are `&mut`.
+/// Why this is safe: the declarations are those of that version; each function is total and asks nothing of its numbers,
+/// nor of a float's bits; a lent slice is live, its length is its own, and two slices lent at once are apart because both
+/// are `&mut`; `yes` is a `bool` in the archive too.
 macro_rules! ask {
     ($function:ident($($argument:expr),*)) => {{
         version::compared();
@@ -216,4 +246,19 @@ pub fn cards(code: &Code, b: usize) -> CardCheck {
 /// Mends the records from `start` up to but not `end` and notes each that is not clean; refuses with 12, 14, 13.
 pub fn pass(code: &Code, image: &mut [u8], start: usize, end: usize, journal: &mut [u8]) -> PassAnswer {
     ask!(desk_pass(*code, image.as_mut_ptr(), image.len(), start, end, journal.as_mut_ptr(), journal.len()))
+}
+
+/// The sheet of a station, judged against a ceiling: share ≤ `high`; refuses with 19, as the next two do.
+pub fn sheet_ceiling(hours: f64, devices: usize, words: usize, mended: usize, high: f64) -> SheetAnswer {
+    ask!(desk_sheet_ceiling(hours, devices, words, mended, high))
+}
+
+/// The sheet of a station, judged against a band: `low` ≤ share and share ≤ `high`.
+pub fn sheet_band(hours: f64, devices: usize, words: usize, mended: usize, low: f64, high: f64) -> SheetAnswer {
+    ask!(desk_sheet_band(hours, devices, words, mended, low, high))
+}
+
+/// The sheet of a station with no limit: yes.
+pub fn sheet_open(hours: f64, devices: usize, words: usize, mended: usize) -> SheetAnswer {
+    ask!(desk_sheet_open(hours, devices, words, mended))
 }

@@ -1,8 +1,8 @@
 //! The mending desk: single-error-correcting, double-error-detecting codes with columns of odd weight.
 //!
 //! A safe wrapper of `libdesk.a`, whose functions are written in Rattle and proved: every answer, every refusal and
-//! every byte of a lent buffer is stated by a definition. Each question is a function here or a method of [`Code`], and
-//! answers a [`Result`] whose error is a [`Refusal`], with its number and what it tells.
+//! every byte of a lent buffer is stated by a definition. Each question is a function here or a method of [`Code`] or
+//! [`Station`], and answers a [`Result`] whose error is a [`Refusal`], with its number and what it tells.
 //!
 //! ```
 //! use desk::{Code, Explanation, Refusal, Verdict, Word};
@@ -39,13 +39,15 @@ pub mod ffi;
 
 mod code;
 mod refusal;
+mod sheet;
 mod tally;
 mod version;
 mod word;
 
 pub use code::check_bits_wanted;
-pub use ffi::{Code, Tally};
+pub use ffi::{Code, Sheet, Tally};
 pub use refusal::Refusal;
+pub use sheet::{JudgedSheet, Limit, Station};
 pub use version::VERSION;
 pub use word::{Explanation, Reading, Verdict, Word};
 

@@ -20,7 +20,7 @@ macro_rules! refusals {
         $number:literal $case:ident $({ $($field:ident = $plain:ident $told:literal),+ })?,
         $when:literal, $words:literal;
     )+) => {
-        /// Why the desk refuses, with what it tells. [`Refusal::number`] is the number in document 01's table.
+        /// Why the desk refuses, with what it tells. [`Refusal::number`] is the number in the table of documents 01 and 02.
         #[derive(Clone, Copy, PartialEq, Eq, Hash, Debug)]
         pub enum Refusal {
             $(
@@ -98,6 +98,10 @@ refusals! {
         "journal room (its length / 24, down) below the entries needed", "the journal needs room for {needed} entries";
     14 Run,
         "run's start above its end, or its end above the number of records", "the run does not lie in the image";
+    19 Sheet,
+        "device count 0 or over 65,535, word count 0 or over 65,535, mended above words, hours not finite or not above \
+         zero, a limit's figure not finite or below zero, a band upside down",
+        "the counts, the hours or the limit make no sheet";
 }
 
 impl Refusal {

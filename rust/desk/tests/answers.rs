@@ -3,7 +3,8 @@
 mod common;
 
 use common::*;
-use desk::{Code, Explanation, Refusal, Tally, Verdict, Word, ENTRY, IMAGE, LONGEST_LIST, RECORD};
+use desk::{Code, Explanation, Limit, Refusal, Sheet, Station, Tally, Verdict, Word};
+use desk::{ENTRY, IMAGE, LONGEST_LIST, RECORD};
 
 #[test]
 fn a_new_code_has_its_columns_and_zeros() {
@@ -79,4 +80,20 @@ fn the_longest_image() {
     let done = Tally { clean: 6_553, ..Tally::default() };
     assert_eq!(sample().pass(&mut [0; IMAGE], 0..IMAGE / RECORD, &mut []), Ok(done));
     assert_eq!(sample().pass(&mut [0; IMAGE + RECORD], 0..1, &mut []), Err(Refusal::ImageLength));
+}
+
+#[test]
+fn a_sheet_is_judged_by_each_kind_of_limit() {
+    let station = Station { hours: 6.0, devices: 4, words: 8, mended: 1 };
+    let yes = |limit: Limit| {
+        let judged = station.sheet(limit).unwrap();
+        assert_eq!(judged.sheet, Sheet { device: 6.0, station: 1.5, share: 0.125 });
+        judged.yes
+    };
+    assert!(yes(Limit::Open));
+    assert!(yes(Limit::Ceiling(0.125)) && yes(Limit::Ceiling(2.0)) && !yes(Limit::Ceiling(0.1)));
+    assert!(yes(Limit::Band { low: 0.125, high: 0.125 }) && yes(Limit::Band { low: 0.0, high: 1.0 }));
+    assert!(!yes(Limit::Band { low: 0.2, high: 1.0 }) && !yes(Limit::Band { low: 0.0, high: 0.1 }));
+    assert_eq!(station.sheet(Limit::Band { low: 1.0, high: 0.0 }), Err(Refusal::Sheet));
+    assert_eq!(Station { devices: 65_536, ..station }.sheet(Limit::Open), Err(Refusal::Sheet));
 }

@@ -39,6 +39,8 @@ fn rust_lays_out_every_struct_as_c_does() {
         lines!(CardCheck { number, told, card, mask } of Default::default()),
         lines!(Tally { clean, data, check, even, odd, stray } of Default::default()),
         lines!(PassAnswer { number, told, tally } of Default::default()),
+        lines!(Sheet { device, station, share } of Default::default()),
+        lines!(SheetAnswer { number, told, yes, sheet } of Default::default()),
     ];
     let expected: Vec<&str> = include_str!("../../../c/layout.txt").lines().collect();
     assert_eq!(lines.concat(), expected);

@@ -134,3 +134,44 @@ fn a_refused_image_and_its_journal_are_left_as_they_were() {
     stays(sample(), 210, 21, 479, 13);
     stays(sample(), 210, 22, 480, 14);
 }
+
+/// An answer's numbers and the bits of its figures.
+fn plain(answer: SheetAnswer) -> (usize, usize, bool, [u64; 3]) {
+    let Sheet { device, station, share } = answer.sheet;
+    (answer.number, answer.told, answer.yes, [device, station, share].map(f64::to_bits))
+}
+
+#[test]
+fn sheets() {
+    let figures = [6.0, 1.5, 0.125].map(f64::to_bits);
+    assert_eq!(plain(sheet_open(6.0, 4, 8, 1)), (0, 0, true, figures));
+    assert_eq!(plain(sheet_ceiling(6.0, 4, 8, 1, 0.125)), (0, 0, true, figures));
+    assert_eq!(plain(sheet_ceiling(6.0, 4, 8, 1, 0.1)), (0, 0, false, figures));
+    assert_eq!(plain(sheet_band(6.0, 4, 8, 1, 0.125, 0.125)), (0, 0, true, figures));
+    assert_eq!(plain(sheet_band(6.0, 4, 8, 1, 0.2, 0.3)), (0, 0, false, figures));
+    assert_eq!(plain(sheet_band(6.0, 4, 8, 1, 0.0, 0.1)), (0, 0, false, figures));
+    assert_eq!(sheet_open(1.0, 1, 3, 1).sheet.share, 1.0 / 3.0);
+}
+
+#[test]
+fn a_refused_sheet_is_no_and_three_plus_zeros() {
+    let refused = (19, 0, false, [0; 3]);
+    let no_hours = [0.0, -0.0];
+    let no_figures = [-1.0, -f64::MIN_POSITIVE, f64::INFINITY, f64::NEG_INFINITY, f64::NAN, -f64::NAN];
+    for hours in no_hours.into_iter().chain(no_figures) {
+        assert_eq!(plain(sheet_open(hours, 4, 8, 1)), refused);
+        assert_eq!(plain(sheet_ceiling(hours, 4, 8, 1, 1.0)), refused);
+        assert_eq!(plain(sheet_band(hours, 4, 8, 1, 0.0, 1.0)), refused);
+    }
+    for figure in no_figures {
+        assert_eq!(plain(sheet_ceiling(6.0, 4, 8, 1, figure)), refused);
+        assert_eq!(plain(sheet_band(6.0, 4, 8, 1, figure, 1.0)), refused);
+        assert_eq!(plain(sheet_band(6.0, 4, 8, 1, 0.0, figure)), refused);
+    }
+    for count in [0, 65_536, 65_537, 1 << 32, usize::MAX] {
+        assert_eq!(plain(sheet_open(6.0, count, 8, 1)), refused);
+        assert_eq!(plain(sheet_open(6.0, 4, count, 0)), refused);
+    }
+    assert_eq!(plain(sheet_open(6.0, 4, 8, 9)), refused);
+    assert_eq!(plain(sheet_band(6.0, 4, 8, 1, 0.2, 0.1)), refused);
+}

@@ -3,7 +3,7 @@
 mod common;
 
 use common::*;
-use desk::{check_bits_wanted, Code, Refusal, Word};
+use desk::{check_bits_wanted, Code, Limit, Refusal, Station, Word};
 
 /// The sample with this column at place 3.
 fn with_column(column: u16) -> Code {
@@ -32,6 +32,7 @@ fn all() -> Vec<Refusal> {
         sample().pass(&mut image[..19], 0..1, none).unwrap_err(),
         sample().pass(&mut image, 0..2, none).unwrap_err(),
         sample().pass(&mut image, 0..3, none).unwrap_err(),
+        Station { hours: 6.0, devices: 4, words: 8, mended: 9 }.sheet(Limit::Open).unwrap_err(),
     ]
 }
 
@@ -52,16 +53,18 @@ fn every_refusal_has_its_case() {
         Refusal::ImageLength,
         Refusal::JournalRoom { needed: 2 },
         Refusal::Run,
+        Refusal::Sheet,
     ];
     assert_eq!(all(), expected);
 }
 
 #[test]
 fn every_refusal_has_its_number_and_tells_what_the_table_says() {
-    let told = [0, 0, 3, 3, 3, 3, 0, 0, 0, 5, 0, 0, 2, 0];
-    for (at, refusal) in all().into_iter().enumerate() {
-        assert_eq!((refusal.number(), refusal.told()), (at + 1, told[at]));
-        assert!(refusal.to_string().starts_with(&format!("refused {}: ", at + 1)));
+    let told = [0, 0, 3, 3, 3, 3, 0, 0, 0, 5, 0, 0, 2, 0, 0];
+    let numbers = (1..=14).chain([19]);
+    for ((refusal, number), told) in all().into_iter().zip(numbers).zip(told) {
+        assert_eq!((refusal.number(), refusal.told()), (number, told));
+        assert!(refusal.to_string().starts_with(&format!("refused {}: ", number)));
     }
 }
 

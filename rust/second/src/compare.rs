@@ -1,7 +1,7 @@
 //! The comparison: the same cases to every desk, every number and every byte of the answers.
 
 use crate::answers::{Explained, Passed};
-use crate::cases::{Cases, ImageCase, ListCase, HUGE};
+use crate::cases::{edges, Cases, ImageCase, ListCase, HUGE};
 use crate::desk::Desk;
 use std::collections::BTreeMap;
 use std::fmt;
@@ -16,13 +16,23 @@ pub struct Amounts {
     pub lists: usize,
     pub cards: usize,
     pub images: usize,
+    /// Stations from the seed; every edge is asked besides.
+    pub sheets: usize,
     pub inputs: usize,
 }
 
 impl Amounts {
     /// The amounts of the gate.
-    pub const GATE: Amounts =
-        Amounts { seed: 1, codes: 20_000, words: 200_000, lists: 20_000, cards: 5_000, images: 2_000, inputs: 200 };
+    pub const GATE: Amounts = Amounts {
+        seed: 1,
+        codes: 20_000,
+        words: 200_000,
+        lists: 20_000,
+        cards: 5_000,
+        images: 2_000,
+        sheets: 100_000,
+        inputs: 200,
+    };
 }
 
 /// What was asked of one question: how often, the numbers that were answered, the time of each desk.
@@ -107,6 +117,7 @@ pub fn compare(desks: &[&dyn Desk], amounts: &Amounts) -> Result<Vec<Line>, Box<
     let lists = cases(amounts, 3, amounts.lists, Cases::list);
     let cards = cases(amounts, 4, amounts.cards, Cases::card);
     let images = cases(amounts, 5, amounts.images, Cases::image);
+    let stations = edges().into_iter().chain(cases(amounts, 7, amounts.sheets, Cases::station));
     let inputs = cases(amounts, 6, amounts.inputs, Cases::program_input);
     Ok(vec![
         ask("check bits", desks, numbers_of_bits, |d, &k| d.wanted(k), |a| a.number)?,
@@ -117,6 +128,7 @@ pub fn compare(desks: &[&dyn Desk], amounts: &Amounts) -> Result<Vec<Line>, Box<
         ask("explain", desks, lists, explained, |a| a.0.number)?,
         ask("card check", desks, cards, |d, c| d.card_check(&c.code, c.b), |a| a.number)?,
         ask("pass", desks, images, passed, |a| a.0.number)?,
+        ask("sheet", desks, stations, |d, s| d.sheet(s), |a| a.number)?,
         ask("mend", desks, inputs, |d, i| d.mend(i), |text| if text == "refused 12\n" { 12 } else { 0 })?,
     ])
 }

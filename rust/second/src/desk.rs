@@ -2,8 +2,9 @@
 
 use crate::answers::{Balanced, CardsChecked, Explained, Judged, Passed, Reading, Wanted, Written};
 use crate::code::Code;
+use crate::sheet::{Sheeted, Station};
 
-/// Every question of document 01. No method has a body here: a desk must not fall back on another's answer.
+/// Every question of document 01, and 02's sheet. No method has a body here: a desk must not fall back on another's answer.
 pub trait Desk {
     fn name(&self) -> &'static str;
     fn wanted(&self, k: usize) -> Wanted;
@@ -14,6 +15,7 @@ pub trait Desk {
     fn explain(&self, code: &Code, data: u64, check: u16, limit: usize, list: &mut [u8]) -> Explained;
     fn card_check(&self, code: &Code, b: usize) -> CardsChecked;
     fn pass(&self, code: &Code, image: &mut [u8], start: usize, end: usize, journal: &mut [u8]) -> Passed;
+    fn sheet(&self, asked: &Station) -> Sheeted;
     fn mend(&self, input: &[u8]) -> String;
 }
 
@@ -56,6 +58,10 @@ impl Desk for Second {
 
     fn pass(&self, code: &Code, image: &mut [u8], start: usize, end: usize, journal: &mut [u8]) -> Passed {
         crate::pass(code, image, start, end, journal)
+    }
+
+    fn sheet(&self, asked: &Station) -> Sheeted {
+        crate::sheet(asked)
     }
 
     fn mend(&self, input: &[u8]) -> String {

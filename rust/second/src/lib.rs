@@ -1,10 +1,10 @@
-//! The independent second program: answers every question of document 01 from the document alone.
+//! The independent second program: answers every question of document 01, and 02's sheet, from the documents alone.
 //!
 //! It goes by brute force over words of switches. A word is clean when writing its data gives its check bits; reading,
 //! explanations and cards flip places and ask that again. No syndrome is formed, and nothing is shared with the desk.
 //!
-//! The questions are [`wanted`], [`judge`], [`row_balance`], [`write`], [`read`], [`explain`], [`card_check`], [`pass`]
-//! and the program [`mend`]. [`Desk`] gathers them, [`Cases`] makes cases from a seed, [`compare`] asks several desks, and
+//! The questions are [`wanted`], [`judge`], [`row_balance`], [`write`], [`read`], [`explain`], [`card_check`], [`pass`],
+//! [`sheet`] and the program [`mend`]. [`Desk`] gathers them, [`Cases`] makes cases from a seed, [`compare`] asks several desks, and
 //! [`worked`] asks a desk document 01's own cases.
 
 mod answers;
@@ -17,6 +17,7 @@ mod explain;
 mod pass;
 mod program;
 mod random;
+mod sheet;
 mod word;
 mod worked;
 
@@ -30,5 +31,6 @@ pub use explain::explain;
 pub use pass::{counted, pass};
 pub use program::{mend, run, sample_code};
 pub use random::Random;
+pub use sheet::{share, sheet, Limit, Sheeted, Station};
 pub use word::{read, write};
 pub use worked::worked;

@@ -41,6 +41,16 @@ enum Fault {
     NothingIsMended,
     StrayIsNotCounted,
     RefusedPassHasTally,
+    // Sheets.
+    EndsAreOutside,
+    CeilingIsAFloor,
+    RoundedTwice,
+    HoursAreNotJudged,
+    BandUpsideDownPasses,
+    YesOnRefusal,
+    HoursOnRefusal,
+    MinusZeroIsBelow,
+    NarrowCounts,
     // The program.
     NoLastLineEnd,
     RefusedPrintsTally,
@@ -171,6 +181,32 @@ impl Desk for Sloppy {
         answer
     }
 
+    fn sheet(&self, asked: &Station) -> Sheeted {
+        let mut answer = sheet(asked);
+        let ends = match asked.limit {
+            Limit::Ceiling(high) => vec![high],
+            Limit::Band(low, high) => vec![low, high],
+            Limit::Open => vec![],
+        };
+        match (self.0, answer.number, asked.limit) {
+            (EndsAreOutside, 0, _) if ends.contains(&answer.share) => answer.yes = false,
+            (CeilingIsAFloor, 0, Limit::Ceiling(high)) => answer.yes = answer.share >= high,
+            (RoundedTwice, 0, _) => answer.share = f64::from(f64::from_bits(answer.share) as f32).to_bits(),
+            (HoursAreNotJudged, 19, _) if f64::from_bits(asked.hours) <= 0.0 => {
+                answer = sheet(&Station { hours: 1, ..*asked })
+            }
+            (BandUpsideDownPasses, 19, Limit::Band(low, high)) => {
+                answer = sheet(&Station { limit: Limit::Band(high, low), ..*asked })
+            }
+            (YesOnRefusal, 19, _) => answer.yes = true,
+            (HoursOnRefusal, 19, _) => answer.device = asked.hours,
+            (MinusZeroIsBelow, 0, _) if ends.contains(&(1 << 63)) => answer = Refusal::plain(19).into(),
+            (NarrowCounts, 19, _) => answer = sheet(&Station { devices: asked.devices as u16 as usize, ..*asked }),
+            _ => {}
+        }
+        answer
+    }
+
     fn mend(&self, input: &[u8]) -> String {
         let text = mend(input);
         match self.0 {
@@ -181,7 +217,7 @@ impl Desk for Sloppy {
     }
 }
 
-const NO_CASES: Amounts = Amounts { seed: 1, codes: 0, words: 0, lists: 0, cards: 0, images: 0, inputs: 0 };
+const NO_CASES: Amounts = Amounts { seed: 1, codes: 0, words: 0, lists: 0, cards: 0, images: 0, sheets: 0, inputs: 0 };
 
 /// Every fault is noticed, at this question, with no more cases than these.
 fn noticed(faults: &[Fault], question: &str, amounts: Amounts) {
@@ -227,6 +263,13 @@ fn every_fault_of_a_pass_is_noticed() {
     noticed(&[RefusedPassIsNoted, RefusedPassHasTally, JournalTailIsCleared], "pass", amounts);
     noticed(&[WholeImageIsMended, NumbersFromTheRun, NothingIsMended, StrayIsNotCounted], "pass", amounts);
     noticed(&[NoLastLineEnd, RefusedPrintsTally], "mend", amounts);
+}
+
+#[test]
+fn every_fault_of_a_sheet_is_noticed() {
+    noticed(&[EndsAreOutside, CeilingIsAFloor, RoundedTwice, HoursAreNotJudged], "sheet", NO_CASES);
+    noticed(&[BandUpsideDownPasses, YesOnRefusal, HoursOnRefusal], "sheet", NO_CASES);
+    noticed(&[MinusZeroIsBelow, NarrowCounts], "sheet", NO_CASES);
 }
 
 #[test]

@@ -1,17 +1,28 @@
 //! The streams of cases: fixed by their seed, and wide enough that every line of the document is asked.
 
-use second::cases::HUGE;
+use second::cases::{edges, HUGE};
 use second::*;
 use std::collections::{BTreeSet, HashSet};
 
-const SMALL: Amounts =
-    Amounts { seed: 1, codes: 4_000, words: 10_000, lists: 2_000, cards: 1_000, images: 1_000, inputs: 40 };
+const SMALL: Amounts = Amounts {
+    seed: 1,
+    codes: 4_000,
+    words: 10_000,
+    lists: 2_000,
+    cards: 1_000,
+    images: 1_000,
+    sheets: 4_000,
+    inputs: 40,
+};
 
 #[test]
 fn the_same_seed_gives_the_same_cases() {
     let all = |seed: u64| {
         let mut cases = Cases::new(seed);
-        let some = |_| (cases.code(), cases.word(), cases.list(), cases.card(), cases.image(), cases.program_input());
+        let some = |_| {
+            let program = (cases.image(), cases.program_input());
+            (cases.code(), cases.word(), cases.list(), cases.card(), cases.station(), program)
+        };
         format!("{:?}", (0..50).map(some).collect::<Vec<_>>())
     };
     assert!(all(1) == all(1));
@@ -31,6 +42,7 @@ fn every_number_of_every_question_is_met() {
         ("explain", met(&[0, 1, 2, 3, 4, 5, 6, 7, 10, 11])),
         ("card check", met(&[0, 1, 2, 3, 4, 5, 6, 8, 9])),
         ("pass", met(&[0, 1, 2, 3, 4, 5, 6, 12, 13, 14])),
+        ("sheet", met(&[0, 19])),
         ("mend", met(&[0, 12])),
     ];
     let lines = compare(&[&Second, &Second], &SMALL).expect("the second program agrees with itself");
@@ -174,4 +186,31 @@ fn images_have_every_verdict_run_and_journal() {
     }
     assert!([0, 1, 23, 25].iter().all(|&over| seen.contains(&("room", over))));
     assert!(seen.contains(&("short by", 24)));
+}
+
+#[test]
+fn stations_stand_and_fall_by_every_part() {
+    let mut cases = Cases::new(9);
+    let mut seen = HashSet::new();
+    for station in edges().into_iter().chain((0..20_000).map(|_| cases.station())) {
+        let answer = sheet(&station);
+        let nan = |pattern: u64| f64::from_bits(pattern).is_nan();
+        seen.insert(("yes", (answer.number, answer.yes)));
+        seen.insert(("hours round to 0", (answer.number, answer.station == 0)));
+        seen.insert(("NaN hours", (answer.number, nan(station.hours))));
+        seen.insert(("all mended", (answer.number, station.mended == station.words)));
+        match station.limit {
+            Limit::Ceiling(high) => seen.insert(("ceiling is the share", (answer.number, high == answer.share))),
+            Limit::Band(low, high) if low == high => seen.insert(("one figure", (answer.number, answer.yes))),
+            Limit::Band(low, high) => seen.insert(("NaN end", (answer.number, nan(low) || nan(high)))),
+            Limit::Open => seen.insert(("open", (answer.number, answer.yes))),
+        };
+    }
+    for shape in ["yes", "hours round to 0", "all mended", "ceiling is the share", "one figure"] {
+        assert!(seen.contains(&(shape, (0, true))) && seen.contains(&(shape, (0, false))), "{}", shape);
+    }
+    for shape in ["NaN hours", "NaN end"] {
+        assert!(seen.contains(&(shape, (19, true))) && !seen.contains(&(shape, (0, true))), "{}", shape);
+    }
+    assert!(seen.contains(&("open", (0, true))) && !seen.contains(&("open", (0, false))));
 }

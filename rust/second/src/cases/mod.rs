@@ -4,6 +4,7 @@
 
 mod codes;
 mod images;
+mod stations;
 mod words;
 
 use crate::code::Code;
@@ -12,6 +13,7 @@ use crate::word::Accepted;
 use std::rc::Rc;
 
 pub use images::ImageCase;
+pub use stations::edges;
 pub use words::{CardCase, ListCase, WordCase};
 
 /// Values of k, r, b, limits and ends that no code and no call has: just outside, and such that a narrower number

@@ -1,0 +1,3 @@
+pub mod Zeros
+pub mod Asking
+pub mod Exactly

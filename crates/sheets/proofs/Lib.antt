@@ -1,0 +1,4 @@
+pub mod Multiples
+pub mod Units
+pub mod Rounding
+pub mod Figures
