@@ -13,7 +13,7 @@
  * What is counted. `list_length`, `image_length` and `journal_length` are bytes. Nothing else is:
  *   start, end  records, from the image's first; the record at `end` is not in the run
  *   length      entries of the list, two bytes each
- *   told        with 3 to 6 a place, with 10 entries of the list, with 13 entries of the journal, DESK_ENTRY bytes each
+ *   told        with 3 to 6 and 21 a place, with 10 entries of the list, with 13 entries of the journal, DESK_ENTRY bytes each
  *
  * Figures. `hours`, and `device` and `station` of a sheet, are hours. `share`, `low` and `high` are parts of 1.
  *
@@ -45,7 +45,7 @@ extern "C" {
  *     if (desk_version() != DESK_VERSION)
  *         abort();
  */
-#define DESK_VERSION 1
+#define DESK_VERSION 2
 
 /* The field `number` of an answer: exactly when, and what is told. It is the table of docs/refusals.txt. */
 enum DeskNumber {
@@ -68,6 +68,7 @@ enum DeskNumber {
     DESK_SHEET = 19,          /* device count 0 or over 65,535, word count 0 or over 65,535, mended above words, hours
                                  not finite or not above zero, a limit's figure not finite or below zero, a band upside
                                  down */
+    DESK_LEFTOVER = 21,       /* a place past k is not 0; told: first such place */
 };
 
 /* The field `verdict` of a reading, the third byte of a journal entry, and the order of a tally. */
@@ -88,7 +89,7 @@ enum DeskVerdict {
 #define DESK_ENTRY 24         /* bytes of a journal entry: record number in 2, verdict, place, 10 as read, 10 as left */
 #define DESK_IMAGE 65530      /* bytes of the longest image */
 
-/* A code: k data columns, each with row j as its bit j, and r check bits. Places past k are ignored. */
+/* A code: k data columns, each with row j as its bit j, and r check bits. Places past k hold 0. */
 typedef struct DeskCode {
     uint16_t columns[DESK_COLUMNS];
     size_t k;

@@ -12,7 +12,7 @@ use Rattle.code.specs.declared.Refusal.{Refusal}
 use Rattle.code.specs.declared.Standing.{Standing}
 use Rattle.code.specs.declared.Standing.the-variants as standing
 use Rattle.code.specs.declared.Judged.{Judged}
-use Rattle.code.specs.declared.Judged.the-variants.{Accepted, NoData, NoChecks, TooWide, EvenColumn, SingleOne, Repeated}
+use Rattle.code.specs.declared.Judged.the-variants.{Accepted, NoData, NoChecks, TooWide, EvenColumn, SingleOne, Repeated, Leftover}
 use Rattle.code.specs.Judge.{judgeIn}
 use Rattle.code.specs.Rule.{matrix}
 use Rattle.code.specs.Opened.{standingOf, openedBy, openedIn, Laid}
@@ -35,6 +35,7 @@ accepted-of-standing (TooWide i) e = absurd (refused-no-acceptance e)
 accepted-of-standing (EvenColumn i) e = absurd (refused-no-acceptance e)
 accepted-of-standing (SingleOne i) e = absurd (refused-no-acceptance e)
 accepted-of-standing (Repeated i) e = absurd (refused-no-acceptance e)
+accepted-of-standing (Leftover i) e = absurd (refused-no-acceptance e)
 
 -- what is within limits for an acceptance is so for any code
 laid-by : (most : ℕ) → most ≤ 128 → (s : Standing) (cs : List ℕ) (k rows : ℕ)

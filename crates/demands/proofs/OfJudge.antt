@@ -8,7 +8,7 @@ use lib.Seq.{length-take-le}
 use Rattle.code.specs.declared.Code.{Code}
 use Rattle.code.specs.declared.Refusal.{Refusal}
 use Rattle.code.specs.declared.Judged.{Judged}
-use Rattle.code.specs.declared.Judged.the-variants.{Accepted, NoData, NoChecks, TooWide, EvenColumn, SingleOne, Repeated}
+use Rattle.code.specs.declared.Judged.the-variants.{Accepted, NoData, NoChecks, TooWide, EvenColumn, SingleOne, Repeated, Leftover}
 use Rattle.code.specs.Rule.{matrixOf, SaysOfCode}
 use Rattle.code.specs.Opened.{standingOf, judgementBy}
 use Rattle.code.proofs.Numbers.{judgedBy, known-by}
@@ -31,6 +31,7 @@ accepted-exactly code handed =
             λ i h. s .rule .below i (omega arith),
             λ p q hp hq. s .rule .good .apart p q (omega arith) (omega arith),
             λ p h. s .rule .good .each-odd p (omega arith),
+            λ i past h. s .empty i past (omega arith),
           ),
       λ s.
           let few = s .0 .sized .few in
@@ -42,6 +43,7 @@ accepted-exactly code handed =
               below = λ i h. s .1 i (omega arith);
               good = record { apart = λ p q hp hq. s .2 p q (omega arith) (omega arith); each-odd = λ p h. s .3 p (omega arith) };
             };
+            empty = λ i past h. s .4 i past (omega arith);
           }))),
     )
 
@@ -73,4 +75,5 @@ judged-exactly code = (
   λ i. answer-exactly code (EvenColumn i),
   λ i. answer-exactly code (SingleOne i),
   λ i. answer-exactly code (Repeated i),
+  λ i. answer-exactly code (Leftover i),
 )

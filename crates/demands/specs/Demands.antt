@@ -66,7 +66,7 @@ EntriesRead =
 -- ---- the code
 
 -- Accepted exactly: k is 1 to 64, r is 3 to 16, each data column is below 2 ^ r, and of all n columns, check columns included,
--- no two are equal and each has an odd number of ones.
+-- no two are equal and each has an odd number of ones; and every place past k is 0.
 abbrev pub AcceptedExactly : Type 0
 AcceptedExactly =
     (code : Code) → Handed code
@@ -74,13 +74,14 @@ AcceptedExactly =
     ↔ (Limits 64 (code .k) (code .r)
     × ((i : ℕ) → i < code .k → column (dataColumns code) i < 2 ^ code .r)
     × ((p q : ℕ) → p < placesOf code → q < placesOf code → column (matrixOf code) p ≡ column (matrixOf code) q → p ≡ q)
-    × ((p : ℕ) → p < placesOf code → oddOnes (column (matrixOf code) p) ≡ 1))
+    × ((p : ℕ) → p < placesOf code → oddOnes (column (matrixOf code) p) ≡ 1)
+    × ((i : ℕ) → code .k ≤ i → i < 64 → column (code .columns) i ≡ 0))
 
 -- So each data column has at least three ones.
 abbrev pub ThreeOnes : Type 0
 ThreeOnes = (code : Code) → Accepted code → (i : ℕ) → i < code .k → 3 ≤ ones (column (dataColumns code) i)
 
--- Refusals 1 to 6 exactly: each number, told its place, exactly when its row of the table holds and no earlier one; 0 exactly for an
+-- Refusals 1 to 6 and 21 exactly: each number, told its place, exactly when its row of the table holds and no earlier one; 0 exactly for an
 -- accepted code.
 abbrev pub JudgedExactly : Type 0
 JudgedExactly =
@@ -93,6 +94,7 @@ JudgedExactly =
     × ((i : ℕ) → (judgementOf code ≡ told 4 i) ↔ says (judged.EvenColumn i))
     × ((i : ℕ) → (judgementOf code ≡ told 5 i) ↔ says (judged.SingleOne i))
     × ((i : ℕ) → (judgementOf code ≡ told 6 i) ↔ says (judged.Repeated i))
+    × ((i : ℕ) → (judgementOf code ≡ told 21 i) ↔ says (judged.Leftover i))
 
 -- Check bits wanted is refused by 1 exactly for k 0 and k over 64, and hands back no bits then.
 abbrev pub CheckBitsRefused : Type 0

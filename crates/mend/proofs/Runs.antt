@@ -17,7 +17,7 @@ use Rattle.runs.proofs.Tallies.{count-le}
 use Rattle.runs.proofs.Image as runs
 use Rattle.code.specs.declared.Opened.{Opened}
 use Rattle.code.specs.declared.Standing.the-variants as standing
-use Rattle.code.specs.Judge.{judgeColumn, judgeFrom, judgeColumns, judgeIn}
+use Rattle.code.specs.Judge.{judgeColumn, judgeFrom, judgeColumns, judgeRest, leftoverFrom, judgeIn}
 use Rattle.code.specs.Opened.{openedOf}
 use Rattle.code.specs.Sample.{sampleCode}
 use Rattle.code.proofs.Laid.{refused-no-acceptance}
@@ -37,7 +37,7 @@ use Rattle.report.proofs.Lines.{journal-append}
 use Rattle.mend.specs.Mend.{sampleReader, runTally, runLeft, runText, Ready, asTotals}
 
 pub sample-accepted : openedOf sampleCode .standing ≡ standing.Accepted
-unfolding judgeIn judgeColumns judgeFrom judgeColumn ones onesIn placeIn
+unfolding judgeIn judgeColumns judgeRest leftoverFrom judgeFrom judgeColumn ones onesIn placeIn
 sample-accepted = refl
 
 -- a run that ends within the image

@@ -26,16 +26,17 @@ module _ (most : ℕ) (cs : List ℕ) (h : length cs ≤ most) where
   padded-length : length (paddedTo most cs) ≡ most
   padded-length = omega (arith, length-append cs (replicate (most - length cs) 0), length-replicate {A = ℕ} (most - length cs) 0)
 
+  padded-past : (p : ℕ) → length cs ≤ p → p < most → column (paddedTo most cs) p ≡ 0
+  padded-past p u l =
+      let e : p ≡ length cs + (p - length cs) = omega arith in
+      ap (column (paddedTo most cs)) e ∙ getD-append-add cs (replicate (most - length cs) 0) (p - length cs) 0
+      ∙ getD-replicate (most - length cs) (p - length cs) 0 0 (omega arith)
+
   padded-below : (b p : ℕ) → 0 < b → ((i : ℕ) → i < length cs → column cs i < b) → p < most → column (paddedTo most cs) p < b
   padded-below b p pos below l =
       ⊎-elim
       (λ (u : p < length cs). rw (List·getD-append cs (replicate (most - length cs) 0) 0 p u) (below p u))
-      (λ (u : length cs ≤ p).
-      let e : p ≡ length cs + (p - length cs) = omega arith in
-      let z : column (paddedTo most cs) p ≡ 0 =
-      ap (column (paddedTo most cs)) e ∙ getD-append-add cs (replicate (most - length cs) 0) (p - length cs) 0
-      ∙ getD-replicate (most - length cs) (p - length cs) 0 0 (omega arith) in
-      rw z pos)
+      (λ (u : length cs ≤ p). rw (padded-past p u l) pos)
       (below-or-not p (length cs))
 
 -- a code that the judge accepts has no more columns than there is room for
@@ -65,6 +66,7 @@ module _ (k r : ℕ) (some : 1 ≤ k) (few : k ≤ 64) (least : 3 ≤ r) (top : 
         accepted = judge-rule 64 (paddedTo 64 cs) k r .1 (record {
           limits = record { sized = record { some = some; few = few }; least = least; top = top };
           rule = rw (take-at cs (replicate (64 - length cs) 0) k size) (f .2);
+          empty = λ i u l. padded-past 64 cs (omega arith) i (omega arith) (omega (arith, padded-length 64 cs (omega arith)));
         });
       }
 

@@ -4,7 +4,7 @@ use mathlib.Core.Bool.{true}
 use lib.Count.{ones, onesIn}
 use Rattle.columns.specs.Mix.{mix, singlesFrom, singles, placeIn}
 use Rattle.columns.specs.Solving.{solveFrom, solve}
-use Rattle.code.specs.Judge.{judgeColumn, judgeFrom, judgeColumns, judgeIn}
+use Rattle.code.specs.Judge.{judgeColumn, judgeFrom, judgeColumns, leftoverFrom, judgeRest, judgeIn}
 use Rattle.balance.specs.Balance.{sumOf, balanceAt, balancesFrom}
 use Rattle.word.specs.Word.{flippedIn}
 use Rattle.word.specs.Verdicts.{verdictOn, readIn}
@@ -16,7 +16,7 @@ use Rattle.cards.specs.Checking.{cardedIn}
 use Rattle.worked.specs.Table.{right, allRight, table}
 
 pub all-hold : allRight table ≡ true
-unfolding allRight table right ones onesIn mix singlesFrom singles placeIn solveFrom solve judgeColumn judgeFrom judgeColumns judgeIn sumOf
-    balanceAt balancesFrom flippedIn verdictOn readIn writeIn flipAll chosen setsUpTo those bytesFor explanations listedIn
-    explainIn weakMask firstFrom tryMask weakMaskIn tryCard weakCardIn cardedIn
+unfolding allRight table right ones onesIn mix singlesFrom singles placeIn solveFrom solve judgeColumn judgeFrom judgeColumns
+    leftoverFrom judgeRest judgeIn sumOf balanceAt balancesFrom flippedIn verdictOn readIn writeIn flipAll chosen setsUpTo those
+    bytesFor explanations listedIn explainIn weakMask firstFrom tryMask weakMaskIn tryCard weakCardIn cardedIn
 all-hold = refl

@@ -11,7 +11,7 @@ use crate::version;
 
 /// A code as it is handed about: `k` data columns, each with row j as its bit j, and `r` check bits.
 ///
-/// Nothing about it is trusted: every question judges it first. Column places past `k` are ignored.
+/// Nothing about it is trusted: every question judges it first. Column places past `k` hold 0.
 #[repr(C)]
 #[derive(Clone, Copy, PartialEq, Eq, Hash, Debug)]
 pub struct Code {

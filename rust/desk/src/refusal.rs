@@ -102,6 +102,8 @@ refusals! {
         "device count 0 or over 65,535, word count 0 or over 65,535, mended above words, hours not finite or not above \
          zero, a limit's figure not finite or below zero, a band upside down",
         "the counts, the hours or the limit make no sheet";
+    21 Leftover { place = told "first such place" },
+        "a place past k is not 0", "place {place}, past k, is not 0";
 }
 
 impl Refusal {

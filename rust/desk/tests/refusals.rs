@@ -61,7 +61,7 @@ fn every_refusal_has_its_case() {
 #[test]
 fn every_refusal_has_its_number_and_tells_what_the_table_says() {
     let told = [0, 0, 3, 3, 3, 3, 0, 0, 0, 5, 0, 0, 2, 0, 0];
-    let numbers = (1..=14).chain([19]);
+    let numbers = (1..=14).chain([19, 21]);
     for ((refusal, number), told) in all().into_iter().zip(numbers).zip(told) {
         assert_eq!((refusal.number(), refusal.told()), (number, told));
         assert!(refusal.to_string().starts_with(&format!("refused {}: ", number)));

@@ -77,6 +77,9 @@ pub fn accepted_columns(code: &Code) -> Result<Vec<[bool; 16]>, Refusal> {
         }
         earlier.insert(column);
     }
+    if let Some(place) = (code.k..64).find(|&place| code.columns[place] != 0) {
+        return Err(Refusal { number: 21, told: place });
+    }
     let check_columns = (0..code.r).map(|row| 1 << row);
     Ok(code.columns[..code.k].iter().copied().chain(check_columns).map(rows_of).collect())
 }

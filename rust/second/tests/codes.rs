@@ -60,7 +60,8 @@ fn the_rule_is_what_is_accepted() {
             let columns: Vec<u16> = code.columns[..code.k].iter().copied().chain(checks).collect();
             let differ = (0..columns.len()).all(|at| !columns[..at].contains(&columns[at]));
             let fit = columns.iter().all(|&column| u32::from(column) < 1 << code.r);
-            differ && fit && columns.iter().all(|column| column.count_ones() % 2 == 1)
+            let is_empty_past_k = code.columns[code.k..].iter().all(|&left| left == 0);
+            differ && fit && is_empty_past_k && columns.iter().all(|column| column.count_ones() % 2 == 1)
         };
         assert_eq!(judge(&code).number == 0, by_the_rule, "{:?}", code);
     }

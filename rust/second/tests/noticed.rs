@@ -15,6 +15,9 @@ enum Fault {
     BalanceOfDataColumns,
     BalancePastTheRows,
     LeftoversAreJudged,
+    LeftoversAreIgnored,
+    OnlyTheNextPlaceIsSeen,
+    LastPlaceIsNotSeen,
     NarrowNumbers,
     PlaceIsNotTold,
     SmallestNumberFirst,
@@ -67,7 +70,16 @@ impl Sloppy {
 
     /// The code as this desk takes it.
     fn taken(&self, code: &Code) -> Code {
+        let without = |places: std::ops::Range<usize>| {
+            let mut code = *code;
+            code.columns[places].fill(0);
+            code
+        };
+        let k = code.k.min(64);
         match self.0 {
+            LeftoversAreIgnored => without(k..64),
+            OnlyTheNextPlaceIsSeen => without((k + 1).min(64)..64),
+            LastPlaceIsNotSeen => without(k.max(63)..64),
             LeftoversAreJudged if (1..=64).contains(&code.k) && code.columns[code.k..].iter().any(|&c| c != 0) => {
                 Code { k: 64, ..*code }
             }
@@ -237,6 +249,7 @@ fn every_fault_of_a_code_is_noticed() {
     let amounts = Amounts { codes: 2_000, ..NO_CASES };
     noticed(&[OneCheckBitMore], "check bits", NO_CASES);
     noticed(&[ChecksAreNotCompared, LeftoversAreJudged, NarrowNumbers], "judge", amounts);
+    noticed(&[LeftoversAreIgnored, OnlyTheNextPlaceIsSeen, LastPlaceIsNotSeen], "judge", amounts);
     noticed(&[PlaceIsNotTold, SmallestNumberFirst], "judge", amounts);
     noticed(&[BalanceOfDataColumns, BalancePastTheRows], "row balance", amounts);
 }

@@ -80,15 +80,32 @@ fn the_order_within_a_code() {
 }
 
 #[test]
-fn places_past_k_are_ignored() {
-    for left in [0, 1, 3, 28, 32, 0xFFFF] {
-        let mut code = sample_code();
-        code.columns[8..].fill(left);
-        assert_eq!(judge(&code), judged(0, 0));
-        assert_eq!(row_balance(&code), row_balance(&sample_code()));
-        assert_eq!(read(&code, 0xA4, 27), reading(1, 0, 0xA5, 27));
-        assert_eq!(card_check(&code, 3), weak(1, 7));
+fn number_21_leftovers_past_k() {
+    for left in [1, 3, 28, 32, 0xFFFF] {
+        for first in 8..64 {
+            let mut code = sample_code();
+            code.columns[first] = left;
+            refused_everywhere(code, 21, first);
+            code.columns[first..].fill(left);
+            refused_everywhere(code, 21, first);
+        }
     }
+    // With 64 data columns no place is past k.
+    let allowed = (0..256u16).filter(|column| column.count_ones() % 2 == 1 && column.count_ones() > 1);
+    assert_eq!(judge(&Code::of(&allowed.take(64).collect::<Vec<_>>(), 8)), judged(0, 0));
+}
+
+#[test]
+fn number_21_comes_after_the_columns() {
+    let mut code = sample_with(7, 28);
+    code.columns[8] = 1;
+    refused_everywhere(code, 6, 7);
+    refused_everywhere(Code { r: 2, ..code }, 2, 0);
+    // With k one higher the leftover is a column.
+    let mut code = sample_code();
+    code.columns[8] = 1;
+    refused_everywhere(code, 21, 8);
+    refused_everywhere(Code { k: 9, ..code }, 5, 8);
 }
 
 #[test]

@@ -35,13 +35,13 @@ fn every_number_of_every_question_is_met() {
     let met = |number: &[usize]| number.iter().copied().collect::<BTreeSet<usize>>();
     let wanted = [
         ("check bits", met(&[0, 1])),
-        ("judge", met(&[0, 1, 2, 3, 4, 5, 6])),
-        ("row balance", met(&[0, 1, 2, 3, 4, 5, 6])),
-        ("write", met(&[0, 1, 2, 3, 4, 5, 6, 7])),
-        ("read", met(&[0, 1, 2, 3, 4, 5, 6, 7])),
-        ("explain", met(&[0, 1, 2, 3, 4, 5, 6, 7, 10, 11])),
-        ("card check", met(&[0, 1, 2, 3, 4, 5, 6, 8, 9])),
-        ("pass", met(&[0, 1, 2, 3, 4, 5, 6, 12, 13, 14])),
+        ("judge", met(&[0, 1, 2, 3, 4, 5, 6, 21])),
+        ("row balance", met(&[0, 1, 2, 3, 4, 5, 6, 21])),
+        ("write", met(&[0, 1, 2, 3, 4, 5, 6, 7, 21])),
+        ("read", met(&[0, 1, 2, 3, 4, 5, 6, 7, 21])),
+        ("explain", met(&[0, 1, 2, 3, 4, 5, 6, 7, 10, 11, 21])),
+        ("card check", met(&[0, 1, 2, 3, 4, 5, 6, 8, 9, 21])),
+        ("pass", met(&[0, 1, 2, 3, 4, 5, 6, 12, 13, 14, 21])),
         ("sheet", met(&[0, 19])),
         ("mend", met(&[0, 12])),
     ];
@@ -72,22 +72,19 @@ fn sound_codes_have_every_shape_and_are_sound() {
 fn damaged_codes_have_every_damage() {
     let mut cases = Cases::new(4);
     let mut seen = HashSet::new();
-    let mut leftovers = 0;
     for _ in 0..20_000 {
         let code = cases.damaged_code();
         let answer = judge(&code);
         seen.insert((answer.number, answer.told));
-        leftovers += usize::from(answer.number == 0 && code.columns[code.k..].iter().any(|&column| column != 0));
         seen.extend([(100, code.k), (200, code.r)]);
     }
-    for number in 3..=6 {
-        let first = usize::from(number == 6);
+    for number in [3, 4, 5, 6, 21] {
+        let first = usize::from(number == 6 || number == 21);
         let places = (first..64).filter(|&place| seen.contains(&(number, place))).count();
         assert!(places > 50 && seen.contains(&(number, first)) && seen.contains(&(number, 63)), "{}", number);
     }
     assert!([0, 65].iter().chain(&HUGE).all(|&k| seen.contains(&(100, k))));
     assert!([2, 17].iter().chain(&HUGE).all(|&r| seen.contains(&(200, r))));
-    assert!(leftovers > 100);
 }
 
 #[test]

@@ -26,6 +26,9 @@ enum-known-a-3 c = search needs
 enum-known-a-4 : tie.Need-enum-known-a-4
 enum-known-a-4 c = search needs
 
+enum-known-a-5 : tie.Need-enum-known-a-5
+enum-known-a-5 c = search needs
+
 returns : tie.Need-returns
 returns c = search needs
 
@@ -47,6 +50,9 @@ returns-6 c = sym (ap standingOf (c .before .a3 .given .1))
 returns-7 : tie.Need-returns-7
 returns-7 c = sym (ap standingOf (c .before .a4 .given .1))
 
+returns-8 : tie.Need-returns-8
+returns-8 c = sym (ap standingOf (c .before .a5 .given .1))
+
 pub standing-of-spec : {M : Type 1} → statement M
 standing-of-spec =
     tie.close
@@ -58,10 +64,12 @@ standing-of-spec =
     enum-known-a-2
     enum-known-a-3
     enum-known-a-4
+    enum-known-a-5
     returns
     returns-2
     returns-3
     returns-4
     returns-5
     returns-6
-    returns-7)
+    returns-7
+    returns-8)

@@ -37,9 +37,7 @@ impl Cases {
         };
         self.made += 1;
         let columns = self.sound_columns(k, r);
-        let mut code = Code::of(&columns, r);
-        self.leave_past_k(&mut code);
-        code
+        Code::of(&columns, r)
     }
 
     /// k different allowed columns in one of five styles.
@@ -82,17 +80,24 @@ impl Cases {
         [paired, others].concat()
     }
 
-    /// What stands in the places past k is ignored: now and then it is not 0.
+    /// Leaves something in one place past k, in the first or the last of them, or in many.
     fn leave_past_k(&mut self, code: &mut Code) {
-        let style = self.random.below(6);
+        let past = code.k.min(64)..64;
+        if past.is_empty() {
+            return;
+        }
+        let anywhere = past.start + self.random.below(past.len());
+        let from = self.random.pick(&[past.start, 63, anywhere, anywhere]);
         let first = code.columns[0];
-        for place in code.k.min(64)..64 {
-            code.columns[place] = match style {
-                0 | 1 => self.random.draw() as u16,
-                2 => first,
-                3 => u16::MAX,
-                _ => 0,
-            };
+        let left = match self.random.below(4) {
+            0 => self.random.draw() as u16,
+            1 => first,
+            2 => 1 << self.random.below(16),
+            _ => u16::MAX,
+        };
+        code.columns[from] = left;
+        if self.random.once_in(3) {
+            code.columns[from..].fill(left);
         }
     }
 
@@ -103,9 +108,10 @@ impl Cases {
             return self.any_code();
         }
         for _ in 0..=self.random.below(2) {
-            match self.random.below(8) {
+            match self.random.below(10) {
                 0 => code.k = self.bad_k(),
                 1 => code.r = self.bad_r(),
+                2 | 3 => self.leave_past_k(&mut code),
                 _ => self.damage_column(&mut code),
             }
         }
