@@ -2,7 +2,7 @@
 use mathlib.Core.Path.{_≡_, refl}
 use mathlib.Core.Bool.{Bool, true, false, cond}
 use mathlib.Core.Logic.{⊎-elim}
-use mathlib.Core.List.{List}
+use mathlib.Core.List.{List, [], _∷_}
 use Prim.Native.Nat.{ℕ, zero, suc, _-_, _≤_, _<_}
 use native.Mathlib.Omega.{arith}
 use borrow.Author.Tests.{eqb-true, eqb-false, eq-eqb, ne-eqb}
@@ -14,6 +14,18 @@ use Rattle.code.specs.declared.Judged.{Judged}
 use Rattle.code.specs.declared.Judged.the-variants.{Accepted, NoData, NoChecks, TooWide, EvenColumn, SingleOne, Repeated, Leftover}
 use Rattle.code.specs.Judge.{leftoverFrom, judgeRest}
 use Rattle.code.specs.Rule.{Empty, LeftAt}
+
+-- ---- in plain numbers: behind two columns, the first of two leftovers is told, and one in the last place is seen
+
+pub first-told : judgeRest (7 ∷ 11 ∷ 0 ∷ 5 ∷ 0 ∷ 9 ∷ []) 2 ≡ Leftover 3
+unfolding judgeRest leftoverFrom
+first-told = refl
+
+pub last-seen : judgeRest (7 ∷ 11 ∷ 0 ∷ 0 ∷ 0 ∷ 9 ∷ []) 2 ≡ Leftover 5
+unfolding judgeRest leftoverFrom
+last-seen = refl
+
+-- ---- for all places
 
 module _ (columns : List ℕ) (k : ℕ) where
   -- what an answer says of the places past k

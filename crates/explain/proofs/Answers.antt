@@ -1,7 +1,7 @@
 -- The answers, row by row, for any opened code: the number, what is told, the list's length, and the lent list afterwards. Assumes nothing.
-use mathlib.Core.Path.{_≡_, sym, ap, ap₂, _∙_}
+use mathlib.Core.Path.{_≡_, refl, sym, ap, ap₂, _∙_}
 use mathlib.Core.Logic.{_⊎_}
-use mathlib.Core.List.{List}
+use mathlib.Core.List.{List, [], _∷_}
 use Prim.Native.Nat.{ℕ, _-_, _/_, _^_, _≤_, _<_}
 use native.Mathlib.Omega.{arith}
 use borrow.Author.Tests.{lt-ltb, le-ltb}
@@ -23,6 +23,23 @@ use Rattle.mending.proofs.Strays.{stray-of, no-stray}
 -- an answer, and the lent list with it
 abbrev pub said : ℕ → ℕ → ℕ → List ℕ → Explained
 said number told long list = record { answer = record { number = number; told = told; length = long }; list = list }
+
+-- ---- in plain numbers: under a data column 7 and three rows a limit of 3 is refused, and check bit 3 is stray
+
+pub limit-three : explainIn 7 (7 ∷ 1 ∷ 2 ∷ 4 ∷ []) 1 (record { low = 0; high = 0; check = 0 }) 3 [] ≡ said 11 0 0 []
+unfolding explainIn
+limit-three = refl
+
+pub check-three : explainIn 7 (7 ∷ 1 ∷ 2 ∷ 4 ∷ []) 1 (record { low = 0; high = 0; check = 8 }) 3 [] ≡ said 7 0 0 []
+unfolding explainIn
+check-three = refl
+
+-- one byte is no room for an entry
+pub one-byte : listedIn ([] ∷ []) (0 ∷ []) ≡ said 10 1 0 (0 ∷ [])
+unfolding listedIn
+one-byte = refl
+
+-- ---- for any opened code
 
 -- the explanations of a word under an opened code
 abbrev pub setsOf : Opened → Word → ℕ → List (List ℕ)

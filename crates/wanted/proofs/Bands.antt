@@ -1,5 +1,5 @@
 -- Check bits wanted: where the answer is a number of bits, and where it is a refusal. Assumes nothing.
-use mathlib.Core.Path.{_≡_, sym, ap, _∙_}
+use mathlib.Core.Path.{_≡_, refl, sym, ap, _∙_}
 use mathlib.Core.Bool.{or-true}
 use mathlib.Core.Logic.{_↔_, _⊎_, inl, inr, ⊎-elim}
 use Prim.Native.Nat.{ℕ, _≤_, _<_}
@@ -8,6 +8,11 @@ use borrow.Author.Tests.{eq-eqb, ne-eqb, lt-ltb, le-ltb}
 use lib.Dec.{eqb}
 use Rattle.parity.proofs.Ones.{below-or-not}
 use Rattle.wanted.specs.Wanted.{bandOf, wantedOf}
+
+-- in plain numbers: 64 data bits are the most
+pub most : wantedOf 64 ≡ record { number = 0; bits = 8 }
+unfolding wantedOf bandOf
+most = refl
 
 module _ (k : ℕ) where
   pub wanted-inside : 1 ≤ k → k ≤ 64 → wantedOf k ≡ record { number = 0; bits = bandOf k }
