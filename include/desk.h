@@ -45,7 +45,7 @@ extern "C" {
  *     if (desk_version() != DESK_VERSION)
  *         abort();
  */
-#define DESK_VERSION 2
+#define DESK_VERSION 3
 
 /* The field `number` of an answer: exactly when, and what is told. It is the table of docs/refusals.txt. */
 enum DeskNumber {
@@ -139,7 +139,10 @@ typedef struct DeskListing {
     size_t length;
 } DeskListing;
 
-/* The answer of desk_cards: with number 9 the first weak card, and on it the smallest weak mask. */
+/*
+ * The answer of desk_cards: with number 9 the first weak card, and on it the smallest weak mask, bit t for the card's
+ * place t. Data cards are numbered first, from 0; the first check card has the number (k + b - 1) / b.
+ */
 typedef struct DeskCardCheck {
     size_t number;
     size_t told;
@@ -200,7 +203,11 @@ DeskReadWord desk_read(DeskCode code, uint64_t data, uint16_t check);
 /* All sets of at most `limit` places that explain the word, into `list`, two bytes a set; refuses with 7, 11, 10. */
 DeskListing desk_explain(DeskCode code, uint64_t data, uint16_t check, size_t limit, uint8_t *list, size_t list_length);
 
-/* Whether every error of two or more bits within one card of b places is flagged; refuses with 8, 9. */
+/*
+ * Whether every error of two or more bits within one card of b places is flagged; refuses with 8, 9. Cards take b places
+ * each from place 0 on, and begin again at place k: no card has data and check bits, and either part may end in a short
+ * card.
+ */
 DeskCardCheck desk_cards(DeskCode code, size_t b);
 
 /* Mends the records from `start` up to but not `end` and notes each that is not clean; refuses with 12, 14, 13. */

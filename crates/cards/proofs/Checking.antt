@@ -15,10 +15,10 @@ use Rattle.code.specs.Opened.{columnsOf}
 use Rattle.cards.specs.declared.CardCheck.{CardCheck}
 use Rattle.cards.specs.declared.Found.{Found}
 use Rattle.cards.specs.declared.Found.the-variants.{Nothing, At}
-use Rattle.cards.specs.Cards.{weakCardIn}
+use Rattle.cards.specs.Cards.{Card, allCards, weakCardIn}
 use Rattle.cards.specs.Rule.{CardProof, FirstWeak}
 use Rattle.cards.specs.Checking.{CardSize, cardedBy, cardedIn, cardedAs, cardedOf}
-use Rattle.cards.proofs.Parts.{proof-exactly, weak-exactly-all}
+use Rattle.cards.proofs.Walk.{proof-exactly, weak-exactly}
 
 -- a number alone, and 9 with the card and the mask that it tells
 abbrev pub bare : ℕ → CardCheck
@@ -36,12 +36,12 @@ sized-or-out b =
 
 -- ---- the n columns
 
-module _ (cs : List ℕ) (b : ℕ) where
-  pub size-out : (b < 2) ⊎ (8 < b) → cardedIn cs b ≡ bare 8
+module _ (cs : List ℕ) (k b : ℕ) where
+  pub size-out : (b < 2) ⊎ (8 < b) → cardedIn cs k b ≡ bare 8
   unfolding cardedIn
   size-out = ⊎-elim (λ h. simp (lt-ltb b 2 h)) (λ h. simp (lt-ltb 8 b h, or-true (ltb b 2)))
 
-  pub size-fits : 2 ≤ b → b ≤ 8 → (f : Found) → f ≡ weakCardIn cs cs b 0 → cardedIn cs b ≡ cardedBy f
+  pub size-fits : 2 ≤ b → b ≤ 8 → (f : Found) → f ≡ weakCardIn cs 0 (allCards b k cs) → cardedIn cs k b ≡ cardedBy f
   unfolding cardedIn
   size-fits h l f e = simp (le-ltb b 2 h, le-ltb 8 b l) (ap cardedBy (sym e))
 
@@ -63,39 +63,44 @@ module _ (o : Opened) (b : ℕ) where
     abbrev cs : List ℕ
     cs = columnsOf o
 
-    carded-columns : cardedOf o b ≡ cardedIn cs b
+    -- its cards, by their numbers
+    abbrev cards : List Card
+    cards = allCards b (o .k) cs
+
+    carded-columns : cardedOf o b ≡ cardedIn cs (o .k) b
     carded-columns = ap (λ s. cardedAs s o b) e
 
     pub carded-size : (b < 2) ⊎ (8 < b) → cardedOf o b ≡ bare 8
-    carded-size h = carded-columns ∙ size-out cs b h
+    carded-size h = carded-columns ∙ size-out cs (o .k) b h
 
     module _ (size : CardSize b) where
       -- what the search finds, and the answer to it
-      carded-found : (f : Found) → weakCardIn cs cs b 0 ≡ f → cardedOf o b ≡ cardedBy f
-      carded-found f h = carded-columns ∙ size-fits cs b (size .least) (size .top) f (sym h)
+      carded-found : (f : Found) → weakCardIn cs 0 cards ≡ f → cardedOf o b ≡ cardedBy f
+      carded-found f h = carded-columns ∙ size-fits cs (o .k) b (size .least) (size .top) f (sym h)
 
-      found-carded : (f : Found) → cardedOf o b ≡ cardedBy f → weakCardIn cs cs b 0 ≡ f
-      found-carded f h = by-once (weakCardIn cs cs b 0) f (sym (carded-found (weakCardIn cs cs b 0) refl) ∙ h)
+      found-carded : (f : Found) → cardedOf o b ≡ cardedBy f → weakCardIn cs 0 cards ≡ f
+      found-carded f h = by-once (weakCardIn cs 0 cards) f (sym (carded-found (weakCardIn cs 0 cards) refl) ∙ h)
 
       -- DONE exactly where the code is card-proof for b
-      pub proof-told : (cardedOf o b ≡ bare 0) ↔ CardProof b (columnsOf o) (columnsOf o)
+      pub proof-told : (cardedOf o b ≡ bare 0) ↔ CardProof (columnsOf o) (allCards b (o .k) (columnsOf o))
       proof-told = (
-        λ h. proof-exactly cs cs b 0 .0 (found-carded Nothing h),
-        λ p. carded-found Nothing (proof-exactly cs cs b 0 .1 p),
+        λ h. proof-exactly cs 0 cards .0 (found-carded Nothing h),
+        λ p. carded-found Nothing (proof-exactly cs 0 cards .1 p),
       )
 
       -- 9 exactly with the first weak card and its smallest mask
-      pub weak-told : (card mask : ℕ) → (cardedOf o b ≡ weak card mask) ↔ FirstWeak b (columnsOf o) (columnsOf o) card mask
+      pub weak-told : (card mask : ℕ)
+          → (cardedOf o b ≡ weak card mask) ↔ FirstWeak (columnsOf o) (allCards b (o .k) (columnsOf o)) card mask
       weak-told card mask = (
-        λ h. weak-exactly-all cs cs b card mask .0 (found-carded (At card mask) h),
-        λ w. carded-found (At card mask) (weak-exactly-all cs cs b card mask .1 w),
+        λ h. weak-exactly cs cards card mask .0 (found-carded (At card mask) h),
+        λ w. carded-found (At card mask) (weak-exactly cs cards card mask .1 w),
       )
 
       -- it is one of the two
       pub proof-or-weak : (cardedOf o b ≡ bare 0) ⊎ ((card : ℕ) × (mask : ℕ) × (cardedOf o b ≡ weak card mask))
-      proof-or-weak = go (weakCardIn cs cs b 0) refl
+      proof-or-weak = go (weakCardIn cs 0 cards) refl
         where
-          go : (f : Found) → weakCardIn cs cs b 0 ≡ f
+          go : (f : Found) → weakCardIn cs 0 cards ≡ f
               → (cardedOf o b ≡ bare 0) ⊎ ((card : ℕ) × (mask : ℕ) × (cardedOf o b ≡ weak card mask))
           go Nothing h = inl (carded-found Nothing h)
           go (At card mask) h = inr (card, mask, carded-found (At card mask) h)

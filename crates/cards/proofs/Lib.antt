@@ -1,4 +1,5 @@
 pub mod Search
 pub mod Masks
 pub mod Parts
+pub mod Walk
 pub mod Checking

@@ -1,105 +1,95 @@
--- The cards of a part: the check finds nothing exactly where the part is card-proof, and else the first weak card and its smallest mask.
+-- How a part is cut into cards, and which cards a code has: how many, and for each number the card's first place and its columns.
 -- Assumes nothing.
 use mathlib.Core.Path.{_≡_, refl, sym, ap, _∙_}
-use mathlib.Core.Logic.{_↔_, ⊎-elim}
-use mathlib.Core.List.{List, []}
-use Prim.Native.Nat.{ℕ, zero, suc, _+_, _-_, _*_, _≤_, _<_, zero-le, suc-le-suc}
-use native.Mathlib.Nat.{le-div-iff-mul-le, div-lt-iff-lt-mul, suc-mul}
+use mathlib.Core.Logic.{⊎-elim}
+use mathlib.Core.List.{List, [], _∷_}
+use Prim.Native.Nat.{ℕ, zero, suc, _+_, _-_, _*_, _≤_, _<_}
+use native.Mathlib.Nat.{add-div-right, div-eq-of-lt, div-eq-of-lt-le, suc-mul, zero-add, zero-mul, add-zero}
+use native.Mathlib.Numerals.{add-one}
 use native.Mathlib.Omega.{arith}
-use lib.Arith.{lt-one}
-use lib.Count.{ones}
-use lib.ListN.{length, take, drop, length-drop, drop-of-length-le}
-use lib.Seq.{take-nil, take-all}
-use Rattle.parity.proofs.Ones.{zero-ones, below-or-not}
-use Rattle.cards.specs.declared.Found.the-variants.{Nothing, At}
-use Rattle.cards.specs.Cards.{cardAt, cardsIn, tryCard, weakCardIn}
-use Rattle.cards.specs.Rule.{CardProof, Breaks, FirstWeak}
-use Rattle.cards.proofs.Search.{nothing-found, something-found}
-use Rattle.cards.proofs.Masks.{kept-flagged, flagged-kept, masks-nothing, masks-at}
+use lib.ListN.{length, take, drop, length-append, length-drop, List·getD-append}
+use lib.Seq.{drop-drop, length-take-le, getD-append-add}
+use Rattle.parity.proofs.Ones.{below-or-not}
+use Rattle.cards.specs.Cards.{cardsIn, cutInto, cut, allCards, cardAt}
 
--- ---- how many cards there are: card t begins inside the part exactly where t is below their number
+-- ---- how many cards some places take: none where there are none, else one more than those behind the first b
 
-pub card-inside : (b places t : ℕ) → 1 ≤ b → t < cardsIn b places → t * b < places
-card-inside b places t h l = let k = le-div-iff-mul-le h .0 l in omega (arith, suc-mul t b)
+cards-none : (b : ℕ) → 1 ≤ b → cardsIn b 0 ≡ 0
+cards-none b h = div-eq-of-lt (omega arith)
 
-card-outside : (b places t : ℕ) → 1 ≤ b → cardsIn b places ≤ t → places ≤ t * b
-card-outside b places t h l = let k = div-lt-iff-lt-mul h .0 (suc-le-suc l) in omega (arith, suc-mul t b)
+cards-next : (b places : ℕ) → 1 ≤ b → 1 ≤ places → cardsIn b places ≡ suc (cardsIn b (places - b))
+cards-next b places h l =
+    ⊎-elim
+    (λ (s : places < b).
+    let one : cardsIn b places ≡ 1 = div-eq-of-lt-le b (omega arith) (omega arith) in
+    let z : places - b ≡ 0 = omega arith in
+    rw (one, z, cards-none b h))
+    (λ (s : b ≤ places).
+    let e : places + (b - 1) ≡ (places - b + (b - 1)) + b = omega arith in
+    rw (e, add-div-right (places - b + (b - 1)) h, add-one))
+    (below-or-not places b)
 
-pub card-past : (b : ℕ) (part : List ℕ) (t : ℕ) → length part ≤ t * b → cardAt b part t ≡ []
-card-past b part t h = ap (take b) (drop-of-length-le part h) ∙ take-nil b
+-- ---- a part as a loop walks it: no card where no place is left, else a card and those of the rest
 
-card-none : (b : ℕ) (part : List ℕ) (t : ℕ) → cardsIn b (length part) ≤ t → cardAt b part t ≡ []
-card-none zero part t h = refl
-card-none (suc b) part t h = card-past (suc b) part t (card-outside (suc b) (length part) t (suc-le-suc zero-le) h)
+pub cut-end : (b p : ℕ) (part : List ℕ) → 1 ≤ b → length part ≡ 0 → cut b p part ≡ []
+unfolding cutInto
+cut-end b p part h e = rw (e, cards-none b h)
 
--- the last card may be short: it is all that is left of the part
-pub card-short : (b : ℕ) (part : List ℕ) (t n : ℕ) → length part - t * b ≤ n → length part - t * b ≤ b
-    → take n (drop (t * b) part) ≡ cardAt b part t
-card-short b part t n h k =
-    let rest = drop (t * b) part in
-    take-all n rest (omega (arith, length-drop (t * b) part)) ∙ sym (take-all b rest (omega (arith, length-drop (t * b) part)))
+pub cut-next : (b p : ℕ) (part : List ℕ) → 1 ≤ b → 1 ≤ length part
+    → cut b p part ≡ record { place = p; columns = take b part } ∷ cut b (p + b) (drop b part)
+unfolding cutInto
+cut-next b p part h l = rw (cards-next b (length part) h l, length-drop b part)
 
--- a card without places has no mask of two ones
-pub few-ones : (mask : ℕ) → mask < 1 → ¬ (2 ≤ ones mask)
-few-ones mask h s = omega (arith, ap ones (lt-one h), zero-ones)
+-- ---- the cards by their numbers
 
-module _ (cs part : List ℕ) (b first : ℕ) where
-  -- a card with a weak mask is one of those that are walked
-  walked : (t mask : ℕ) → Breaks cs (cardAt b part t) mask → t < cardsIn b (length part)
-  walked t mask k =
-      ⊎-elim
-      (λ l. l)
-      (λ l. let e = card-none b part t l in absurd (few-ones mask (rw e at (k .inside)) (k .several)))
-      (below-or-not t (cardsIn b (length part)))
+pub cut-counted : (n b p : ℕ) (part : List ℕ) → length (cutInto n b p part) ≡ n
+unfolding cutInto
+cut-counted zero b p part = refl
+cut-counted (suc n) b p part = ap suc (cut-counted n b (p + b) (drop b part))
 
-  cards-nothing : (weakCardIn cs part b first ≡ Nothing) ↔ ((t mask : ℕ) → ¬ (Breaks cs (cardAt b part t) mask))
-  unfolding weakCardIn tryCard
-  cards-nothing =
-      let all = nothing-found (tryCard cs part b first) (cardsIn b (length part)) in (
-        λ h t mask k. masks-nothing cs (cardAt b part t) (first + t) .0 (all .0 h t (walked t mask k)) mask k,
-        λ h. all .1 (λ t l. masks-nothing cs (cardAt b part t) (first + t) .1 (h t)),
-      )
+pub cut-at : (n b p : ℕ) (part : List ℕ) (t : ℕ) → t < n
+    → cardAt (cutInto n b p part) t ≡ record { place = p + t * b; columns = take b (drop (t * b) part) }
+unfolding cutInto
+cut-at zero b p part t l = absurd (omega arith)
+cut-at (suc n) b p part zero l = rw (zero-mul b, add-zero p)
+cut-at (suc n) b p part (suc t) l =
+    let e : b + t * b ≡ suc t * b = omega (arith, suc-mul t b) in
+    let f : p + b + t * b ≡ p + suc t * b = omega (arith, suc-mul t b) in
+    cut-at n b (p + b) (drop b part) t (omega arith)
+    ∙ rw (drop-drop (t * b) b part, e, f)
 
-  -- nothing is found exactly where the part is card-proof
-  pub proof-exactly : (weakCardIn cs part b first ≡ Nothing) ↔ CardProof b cs part
-  proof-exactly = (
-    λ h t mask l s. kept-flagged cs (cardAt b part t) mask l s (cards-nothing .0 h t mask),
-    λ p. cards-nothing .1 (λ t mask. flagged-kept cs (cardAt b part t) mask (p t mask)),
-  )
+-- ---- a code with k data places
 
-  -- a card and a mask are found exactly where the card is the first weak one of the part, counted from `first`, and the mask its smallest
-  pub weak-exactly : (card mask : ℕ)
-      → (weakCardIn cs part b first ≡ At card mask) ↔ ((t : ℕ) × (card ≡ first + t) × FirstWeak b cs part t mask)
-  unfolding weakCardIn tryCard
-  weak-exactly card mask =
-      let some = something-found (tryCard cs part b first) (cardsIn b (length part)) card mask in (
-        λ h.
-            let r = some .0 h in
-            let w = masks-at cs (cardAt b part (r .i)) (first + r .i) card mask .0 (r .here) in (
-              r .i,
-              w .0,
-              record {
-                breaks = w .1;
-                smallest = w .2;
-                first = λ u m l. masks-nothing cs (cardAt b part u) (first + u) .0 (r .before u zero-le l) m;
-              },
-            ),
-        λ k.
-            let t = k .0 in
-            let w = k .2 in
-            some .1 (record {
-              i = t;
-              low = zero-le;
-              high = let l = walked t mask (w .breaks) in omega arith;
-              here = masks-at cs (cardAt b part t) (first + t) card mask .1 (k .1, w .breaks, w .smallest);
-              before = λ u z l. masks-nothing cs (cardAt b part u) (first + u) .1 (λ m. w .first u m l);
-            }),
-      )
+module _ (b k : ℕ) (cs : List ℕ) (inside : k ≤ length cs) where
+  pub data-counted : length (cut b 0 (take k cs)) ≡ cardsIn b k
+  data-counted = cut-counted (cardsIn b (length (take k cs))) b 0 (take k cs) ∙ ap (cardsIn b) (length-take-le k cs inside)
 
--- the same where cards are numbered from 0
-pub weak-exactly-all : (cs part : List ℕ) (b t mask : ℕ) → (weakCardIn cs part b 0 ≡ At t mask) ↔ FirstWeak b cs part t mask
-weak-exactly-all cs part b t mask =
-    let any = weak-exactly cs part b 0 t mask in (
-      λ h. let k = any .0 h in let e : t ≡ k .0 = omega arith in rw e (k .2),
-      λ k. any .1 (t, omega arith, k),
-    )
+  pub all-counted : length (allCards b k cs) ≡ cardsIn b k + cardsIn b (length cs - k)
+  all-counted = simp (length-append, cut-counted, length-drop, length-take-le k cs inside)
+
+  -- the data cards: b places each from place 0 on, the last what is left of the k
+  pub data-card : (t : ℕ) → t < cardsIn b k
+      → cardAt (allCards b k cs) t ≡ record { place = t * b; columns = take b (drop (t * b) (take k cs)) }
+  data-card t l =
+      let few : t < length (cut b 0 (take k cs)) = omega (arith, data-counted) in
+      List·getD-append (cut b 0 (take k cs)) (cut b k (drop k cs)) (record { place = 0; columns = [] }) t few
+      ∙ cut-at (cardsIn b (length (take k cs))) b 0 (take k cs) t (rw (length-take-le k cs inside) l)
+      ∙ rw (zero-add (t * b))
+
+  -- the check cards: their numbers run on, and they begin again at place k
+  pub check-card : (t : ℕ) → t < cardsIn b (length cs - k)
+      → cardAt (allCards b k cs) (cardsIn b k + t) ≡ record { place = k + t * b; columns = take b (drop (k + t * b) cs) }
+  check-card t l =
+      ap (λ (n : ℕ). cardAt (allCards b k cs) (n + t)) (sym data-counted)
+      ∙ getD-append-add (cut b 0 (take k cs)) (cut b k (drop k cs)) t (record { place = 0; columns = [] })
+      ∙ cut-at (cardsIn b (length (drop k cs))) b k (drop k cs) t (rw (length-drop k cs) l)
+      ∙ rw (drop-drop (t * b) k cs)
+
+-- in plain numbers, 02's example: columns 7 and 11 with r 4, and cards of 3
+pub cards-worked : allCards 3 2 (7 ∷ 11 ∷ 1 ∷ 2 ∷ 4 ∷ 8 ∷ [])
+    ≡ record { place = 0; columns = 7 ∷ 11 ∷ [] }
+    ∷ record { place = 2; columns = 1 ∷ 2 ∷ 4 ∷ [] }
+    ∷ record { place = 5; columns = 8 ∷ [] }
+    ∷ []
+unfolding cutInto
+cards-worked = refl

@@ -28,7 +28,7 @@ module _ (f : ℕ → Found) (n m : ℕ) (whole : Found) (left : firstFrom f (n 
 
 -- ---- nothing is found exactly where f finds nothing at any of the numbers
 
-neither : (a b : Found) → unlessFound a b ≡ Nothing → (a ≡ Nothing) × (b ≡ Nothing)
+pub neither : (a b : Found) → unlessFound a b ≡ Nothing → (a ≡ Nothing) × (b ≡ Nothing)
 neither Nothing b h = (refl, h)
 neither (At t mask) b h = let z : _≡_ {A = ℕ} 0 1 = cc in absurd (omega arith)
 

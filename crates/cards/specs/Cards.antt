@@ -1,22 +1,43 @@
--- The card check: document 01, "Cards". A part is a stretch of a word's n columns, cut into cards of b places from its start.
--- Assumes nothing.
+-- The cards of a code and the card check: document 01, "Cards", as 02's request 105 amends it. Assumes nothing.
 use mathlib.Core.Bool.{Bool, cond, _||_, _&&_}
-use mathlib.Core.List.{List}
-use Prim.Native.Nat.{ℕ, zero, suc, _+_, _-_, _*_, _/_, _^_}
+use mathlib.Core.List.{List, [], _∷_, _++_}
+use Prim.Native.Nat.{ℕ, zero, suc, _+_, _-_, _/_, _^_}
 use lib.Count.{ones}
 use lib.Dec.{eqb, ltb, leb}
-use lib.ListN.{length, take, drop}
+use lib.ListN.{length, take, drop, getD}
 use Rattle.columns.specs.Mix.{mix, placeIn}
 use Rattle.cards.specs.declared.Found.{Found}
 use Rattle.cards.specs.declared.Found.the-variants.{Nothing, At}
 
--- card t of a part; the last may be short
-abbrev pub cardAt : ℕ → List ℕ → ℕ → List ℕ
-cardAt b part t = take b (drop (t * b) part)
+-- ---- the cards of a code
+
+-- a card: its first place, and the columns of its places
+pub record Card : Type 0 where
+  pub place : ℕ
+  pub columns : List ℕ
 
 -- how many cards of b a number of places takes
 abbrev pub cardsIn : ℕ → ℕ → ℕ
 cardsIn b places = (places + (b - 1)) / b
+
+-- n cards of b places, cut one after the other from a part that begins at place p
+unfoldable pub cutInto : ℕ → ℕ → ℕ → List ℕ → List Card
+cutInto zero b p part = []
+cutInto (suc n) b p part = record { place = p; columns = take b part } ∷ cutInto n b (p + b) (drop b part)
+
+-- all cards of such a part; the last may be short
+abbrev pub cut : ℕ → ℕ → List ℕ → List Card
+cut b p part = cutInto (cardsIn b (length part)) b p part
+
+-- the cards of a code by their numbers: its k data places are cut into cards, and at the first check place cards begin again
+abbrev pub allCards : ℕ → ℕ → List ℕ → List Card
+allCards b k cs = cut b 0 (take k cs) ++ cut b k (drop k cs)
+
+-- the card that has a number; past the last, one without places
+abbrev pub cardAt : List Card → ℕ → Card
+cardAt cards t = getD cards t (record { place = 0; columns = [] })
+
+-- ---- the check of them
 
 -- whether s is a column
 abbrev pub isColumn : List ℕ → ℕ → Bool
@@ -44,10 +65,7 @@ tryMask cs card number mask = cond (weakMask cs card mask) (At number mask) Noth
 unfoldable pub weakMaskIn : List ℕ → List ℕ → ℕ → Found
 weakMaskIn cs card number = firstFrom (tryMask cs card number) (2 ^ length card) 0
 
--- card t of a part whose cards are numbered from `first` on
-unfoldable pub tryCard : List ℕ → List ℕ → ℕ → ℕ → ℕ → Found
-tryCard cs part b first t = weakMaskIn cs (cardAt b part t) (first + t)
-
--- the first weak card of a part, with its smallest mask
-unfoldable pub weakCardIn : List ℕ → List ℕ → ℕ → ℕ → Found
-weakCardIn cs part b first = firstFrom (tryCard cs part b first) (cardsIn b (length part)) 0
+-- the first weak card of a list of cards that are numbered from `number` on, with its smallest mask
+unfoldable pub weakCardIn : List ℕ → ℕ → List Card → Found
+weakCardIn cs number [] = Nothing
+weakCardIn cs number (card ∷ rest) = unlessFound (weakMaskIn cs (card .columns) number) (weakCardIn cs (suc number) rest)

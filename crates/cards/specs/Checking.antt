@@ -11,7 +11,7 @@ use Rattle.code.specs.Opened.{only, columnsOf}
 use Rattle.cards.specs.declared.Found.{Found}
 use Rattle.cards.specs.declared.Found.the-variants.{Nothing, At}
 use Rattle.cards.specs.declared.CardCheck.{CardCheck}
-use Rattle.cards.specs.Cards.{weakCardIn}
+use Rattle.cards.specs.Cards.{allCards, weakCardIn}
 
 -- a size that cards may have
 pub record CardSize (b : ℕ) : Type 0 where
@@ -26,13 +26,13 @@ abbrev pub cardedBy : Found → CardCheck
 cardedBy Nothing = refusedCards (only 0)
 cardedBy (At card mask) = record { number = 9; told = 0; card = card; mask = mask }
 
--- the n columns cs: 8, then 9; cards of b places run straight on over all of them
-unfoldable pub cardedIn : List ℕ → ℕ → CardCheck
-cardedIn cs b = cond (ltb b 2 || ltb 8 b) (refusedCards (only 8)) (cardedBy (weakCardIn cs cs b 0))
+-- the n columns cs of a code with k data places: 8, then 9
+unfoldable pub cardedIn : List ℕ → ℕ → ℕ → CardCheck
+cardedIn cs k b = cond (ltb b 2 || ltb 8 b) (refusedCards (only 8)) (cardedBy (weakCardIn cs 0 (allCards b k cs)))
 
 -- how the code stands decides first
 abbrev pub cardedAs : Standing → Opened → ℕ → CardCheck
-cardedAs standing.Accepted o b = cardedIn (columnsOf o) b
+cardedAs standing.Accepted o b = cardedIn (columnsOf o) (o .k) b
 cardedAs (standing.Refused f) o b = refusedCards f
 
 abbrev pub cardedOf : Opened → ℕ → CardCheck

@@ -7,7 +7,7 @@ use lib.Bits.{bitXor}
 use lib.Count.{ones}
 use lib.ListN.{length}
 use Rattle.columns.specs.Mix.{mix, column}
-use Rattle.cards.specs.Cards.{cardAt}
+use Rattle.cards.specs.Cards.{Card, cardAt}
 
 -- neither 0 nor any column
 pub record Flagged (cs : List ℕ) (s : ℕ) : Type 0 where
@@ -15,9 +15,9 @@ pub record Flagged (cs : List ℕ) (s : ℕ) : Type 0 where
   pub no-column : (p : ℕ) → p < length cs → column cs p ≢ s
 
 -- card-proof: two or more places of a card never make 0 or a column
-abbrev pub CardProof : ℕ → List ℕ → List ℕ → Type 0
-CardProof b cs part =
-    (t mask : ℕ) → mask < 2 ^ length (cardAt b part t) → 2 ≤ ones mask → Flagged cs (mix (cardAt b part t) mask)
+abbrev pub CardProof : List ℕ → List Card → Type 0
+CardProof cs cards =
+    (t mask : ℕ) → mask < 2 ^ length (cardAt cards t .columns) → 2 ≤ ones mask → Flagged cs (mix (cardAt cards t .columns) mask)
 
 -- a mask of a card breaks that rule
 pub record Breaks (cs card : List ℕ) (mask : ℕ) : Type 0 where
@@ -25,11 +25,11 @@ pub record Breaks (cs card : List ℕ) (mask : ℕ) : Type 0 where
   pub several : 2 ≤ ones mask
   pub makes : (mix card mask ≡ 0) ⊎ ((p : ℕ) × (p < length cs) × (column cs p ≡ mix card mask))
 
--- card t is the first of a part with such a mask, and this is its smallest
-pub record FirstWeak (b : ℕ) (cs part : List ℕ) (t mask : ℕ) : Type 0 where
-  pub breaks : Breaks cs (cardAt b part t) mask
-  pub smallest : (m : ℕ) → m < mask → ¬ (Breaks cs (cardAt b part t) m)
-  pub first : (u m : ℕ) → u < t → ¬ (Breaks cs (cardAt b part u) m)
+-- card t is the first of the cards with such a mask, and this is its smallest
+pub record FirstWeak (cs : List ℕ) (cards : List Card) (t mask : ℕ) : Type 0 where
+  pub breaks : Breaks cs (cardAt cards t .columns) mask
+  pub smallest : (m : ℕ) → m < mask → ¬ (Breaks cs (cardAt cards t .columns) m)
+  pub first : (u m : ℕ) → u < t → ¬ (Breaks cs (cardAt cards u .columns) m)
 
 -- w with those places flipped that a mask names, its bit 0 for place p
 abbrev pub flipMask : ℕ → ℕ → ℕ → ℕ

@@ -1,9 +1,9 @@
 // The card check: over a part of a word's places, and of a whole code.
 ghost use mathlib.Core.Path.{_≡_};
-ghost use Prim.Native.Nat.{_+_, _*_, _≤_, _<_};
-ghost use lib.ListN.{length};
+ghost use Prim.Native.Nat.{_+_, _≤_, _<_};
+ghost use lib.ListN.{length, take, drop};
 ghost use Rattle.code.specs.Opened.{Laid};
-ghost use Rattle.cards.specs.Cards.{cardsIn, weakMask, weakMaskIn, tryCard, weakCardIn};
+ghost use Rattle.cards.specs.Cards.{cardsIn, cut, allCards, weakMask, weakMaskIn, weakCardIn};
 ghost use Rattle.cards.specs.Checking.{refusedCards, cardedIn, cardedOf};
 use code::Opened;
 use code::Refusal;
@@ -46,16 +46,15 @@ fn weak_mask_in(columns: &[u16], card: &[u16], number: usize) -> Found
     Found::Nothing
 }
 
-// Card t of a part; the last may be short.
-fn weak_card(columns: &[u16], part: &[u16], b: usize, first: usize, t: usize) -> Found
-    requires { ⌜ (b ≤ 8) × (t * b < length (now part)) × (first + t < 65536) ⌝ }
-    ensures { λ a. ⌜ a ≡ tryCard (now (columns .entry)) (now (part .entry)) b first t ⌝ }
+// The card that begins at place `at` of a part that goes up to place `end`; the last may be short.
+fn weak_card(columns: &[u16], at: usize, end: usize, b: usize, number: usize) -> Found
+    requires { ⌜ (b ≤ 8) × (at < end) × (end ≤ length (now columns)) ⌝ }
+    ensures { λ a. ⌜ a ≡ weakMaskIn (now (columns .entry)) (take b (drop at (take end (now (columns .entry))))) number ⌝ }
 {
-    let at = t * b;
-    if part.len() - at < b {
-        return weak_mask_in(columns, &part[at..], first + t);
+    if end - at < b {
+        return weak_mask_in(columns, &columns[at..end], number);
     }
-    weak_mask_in(columns, &part[at..at + b], first + t)
+    weak_mask_in(columns, &columns[at..at + b], number)
 }
 
 // How many cards of b a number of places takes.
@@ -66,21 +65,34 @@ fn cards_in(b: usize, places: usize) -> usize
     (places + (b - 1)) / b
 }
 
-// The first weak card of a part, whose cards are numbered from `first` on, with its smallest mask.
-fn weak_card_in(columns: &[u16], part: &[u16], b: usize, first: usize) -> Found
-    requires { ⌜ (1 ≤ b) × (b ≤ 8) × (first + length (now part) + b < 65536) ⌝ }
-    ensures { λ a. ⌜ a ≡ weakCardIn (now (columns .entry)) (now (part .entry)) b first ⌝ }
+// The first weak card of the part from place `start` up to `end`, whose cards are numbered from `first` on, with its smallest mask.
+fn weak_card_in(columns: &[u16], start: usize, end: usize, b: usize, first: usize) -> Found
+    requires { ⌜ (1 ≤ b) × (b ≤ 8) × (start ≤ end) × (end ≤ length (now columns)) × (first + length (now columns) + b < 65536) ⌝ }
+    ensures { λ a. ⌜ a ≡ weakCardIn (now (columns .entry)) first (cut b start (drop start (take end (now (columns .entry))))) ⌝ }
 {
-    let cards = cards_in(b, part.len());
-    let mut t = 0;
-    while t < cards {
-        let found = weak_card(columns, part, b, first, t);
+    let mut at = start;
+    let mut number = first;
+    while at < end {
+        let found = weak_card(columns, at, end, b, number);
         let Found::Nothing = found else {
             return found;
         };
-        t += 1;
+        at += b;
+        number += 1;
     }
     Found::Nothing
+}
+
+// The first weak card of a code with k data places: its data cards, then its check cards, whose numbers run on.
+fn first_weak(columns: &[u16], k: usize, b: usize) -> Found
+    requires { ⌜ (1 ≤ b) × (b ≤ 8) × (k ≤ length (now columns)) × (length (now columns) ≤ 1024) ⌝ }
+    ensures { λ a. ⌜ a ≡ weakCardIn (now (columns .entry)) 0 (allCards b k (now (columns .entry))) ⌝ }
+{
+    let found = weak_card_in(columns, 0, k, b, 0);
+    let Found::Nothing = found else {
+        return found;
+    };
+    weak_card_in(columns, k, columns.len(), b, cards_in(b, k))
 }
 
 // The answer to the card question: the first weak card and its smallest mask, where the number is 9.
@@ -103,13 +115,13 @@ fn refused_cards(refusal: Refusal) -> CardCheck
     }
 }
 
-// The n columns of a code, whose cards of b places run straight on over all of them.
-fn check_in(columns: &[u16], b: usize) -> CardCheck
-    requires { ⌜ length (now columns) ≤ 1024 ⌝ }
-    ensures { λ a. ⌜ a ≡ cardedIn (now (columns .entry)) b ⌝ }
+// The n columns of a code with k data places: the size of a card, then what the search finds.
+fn check_in(columns: &[u16], k: usize, b: usize) -> CardCheck
+    requires { ⌜ (k ≤ length (now columns)) × (length (now columns) ≤ 1024) ⌝ }
+    ensures { λ a. ⌜ a ≡ cardedIn (now (columns .entry)) k b ⌝ }
 {
     match b {
-        2..=8 => match weak_card_in(columns, columns, b, 0) {
+        2..=8 => match first_weak(columns, k, b) {
             Found::Nothing => refused_cards(Refusal { number: 0, told: 0 }),
             Found::At(card, mask) => CardCheck {
                 number: 9,
@@ -132,6 +144,7 @@ pub fn card_check(opened: Opened, b: usize) -> CardCheck
         return refused_cards(refusal);
     }
     let n = opened.n;
+    let k = opened.k;
     let columns = opened.columns;
-    check_in(&columns[..n], b)
+    check_in(&columns[..n], k, b)
 }

@@ -107,6 +107,9 @@ explained-flips = lists.explained-flips
 
 -- ---- cards
 
+pub cards-begin-again : demands.CardsBeginAgain
+cards-begin-again = cards.cards-begin-again
+
 pub cards-refuse : demands.CardsRefuse
 cards-refuse = cards.cards-refuse
 

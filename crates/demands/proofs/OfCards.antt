@@ -1,36 +1,53 @@
 -- The demands on the card check, proved from the layers' laws. Assumes nothing.
-use mathlib.Core.Path.{_≡_, refl, sym, ap, subst, _∙_}
-use mathlib.Core.Logic.{_⊎_, _↔_, inl, inr, ⊎-elim}
-use mathlib.Core.List.{List, [], append-nil}
-use Prim.Native.Nat.{ℕ, _+_, _*_, _^_, _≤_, _<_}
-use native.Mathlib.Nat.{zero-add}
+use mathlib.Core.Path.{_≡_, ap, _∙_}
+use mathlib.Core.Logic.{_⊎_, inl, inr, ⊎-elim}
+use mathlib.Core.List.{List}
+use Prim.Native.Nat.{ℕ, _+_, _-_, _*_, _^_, _≤_, _<_}
 use native.Mathlib.Omega.{arith}
-use lib.Count.{ones}
-use lib.ListN.{length}
+use lib.ListN.{length, take, drop}
+use lib.Seq.{take-at}
 use Rattle.parity.specs.Odd.{oddIn, allRows}
 use Rattle.parity.proofs.Ones.{below-or-not}
-use Rattle.columns.specs.Mix.{mix}
+use Rattle.columns.specs.Mix.{singles}
 use Rattle.code.specs.declared.Code.{Code}
 use Rattle.code.specs.Rule.{matrixOf}
 use Rattle.code.specs.Opened.{openedOf}
-use Rattle.word.specs.declared.Verdict.{Verdict}
 use Rattle.word.specs.declared.Verdict.the-variants.{Even, Odd}
-use Rattle.word.specs.Verdicts.{verdictOn}
 use Rattle.cards.specs.declared.CardCheck.{CardCheck}
-use Rattle.cards.specs.Cards.{cardAt}
-use Rattle.cards.specs.Rule.{CardProof, FirstWeak, flipMask}
-use Rattle.cards.specs.Checking.{CardSize, cardedOf}
-use Rattle.cards.proofs.Checking.{bare, weak, carded-refused, carded-size, proof-told, weak-told, proof-or-weak}
-use Rattle.shields.proofs.Flagged.{flips-stay, card-flagged}
+use Rattle.cards.specs.Cards.{cardsIn, cardAt}
+use Rattle.cards.specs.Rule.{CardProof, flipMask}
+use Rattle.cards.specs.Checking.{CardSize}
+use Rattle.cards.proofs.Parts.{all-counted, data-card, check-card}
+use Rattle.cards.proofs.Checking.{carded-refused, carded-size, proof-told, weak-told, proof-or-weak}
+use Rattle.shields.proofs.Flagged.{card-stays, card-flagged}
 use Rattle.mending.proofs.Reading.{data-inside}
 use Rattle.desk.specs.Answers.{judgementOf, cardsOf}
-use Rattle.demands.specs.Definitions.{Accepted, Unstrayed, placesOf}
+use Rattle.demands.specs.Definitions.{Accepted, Unstrayed, dataColumns, cardsFor}
 use Rattle.demands.specs.Demands as demands
-use Rattle.demands.proofs.Codes.{standing-accepted, standing-refused, columns-are, places-length, sound-of}
+use Rattle.demands.proofs.Codes.{standing-accepted, standing-refused, data-is, columns-are, data-length, places-length, sound-of}
 use Rattle.demands.proofs.Words.{answered-as, clean-zero}
 
 sized : {b : ℕ} → 2 ≤ b → b ≤ 8 → CardSize b
 sized h l = record { least = h; top = l }
+
+-- ---- which cards a code has
+
+data-within : (code : Code) → Accepted code → code .k ≤ length (matrixOf code)
+data-within code a = data-inside (allRows (code .r)) (sound-of code a)
+
+pub cards-begin-again : demands.CardsBeginAgain
+cards-begin-again code b a =
+    let k = code .k in
+    let cs = matrixOf code in
+    let inside = data-within code a in
+    let checks : length cs - k ≡ code .r = omega (arith, places-length code a) in
+    let front : take k cs ≡ dataColumns code = take-at (dataColumns code) (singles (code .r)) k (data-length code a) in (
+      all-counted b k cs inside ∙ ap (λ (n : ℕ). cardsIn b k + cardsIn b n) checks,
+      λ t l. data-card b k cs inside t l ∙ ap (λ (d : List ℕ). record { place = t * b; columns = take b (drop (t * b) d) }) front,
+      λ t l. check-card b k cs inside t (rw checks l),
+    )
+
+-- ---- the answers
 
 pub cards-refuse : demands.CardsRefuse
 cards-refuse code b =
@@ -38,10 +55,10 @@ cards-refuse code b =
       λ h. carded-refused o b (judgementOf code) (standing-refused code h),
       λ a h. carded-size o b (standing-accepted code (a .number)) h,
       λ a h l.
-          subst (λ (cs : List ℕ). (cardsOf code b ≡ bare 0) ↔ CardProof b cs cs) (columns-are code (a .number))
+          rw (data-is code (a .number), columns-are code (a .number)) at
           (proof-told o b (standing-accepted code (a .number)) (sized h l)),
       λ a h l card mask.
-          subst (λ (cs : List ℕ). (cardsOf code b ≡ weak card mask) ↔ FirstWeak b cs cs card mask) (columns-are code (a .number))
+          rw (data-is code (a .number), columns-are code (a .number)) at
           (weak-told o b (standing-accepted code (a .number)) (sized h l) card mask),
       λ a h l.
           ⊎-elim
@@ -62,7 +79,7 @@ module _ (code : Code) (b : ℕ) where
       let f = ap (λ (c : CardCheck). c .number) (cards-refuse code b .0 (λ z. omega arith)) in absurd (omega arith))
       (below-or-not (judgementOf code .number) 1)
 
-  proof-of : (a : Accepted code) → cardsOf code b .number ≡ 0 → CardProof b (matrixOf code) (matrixOf code)
+  proof-of : (a : Accepted code) → cardsOf code b .number ≡ 0 → (1 ≤ b) × CardProof (matrixOf code) (cardsFor code b)
   proof-of a e =
       let c = cards-refuse code b in
       ⊎-elim
@@ -72,7 +89,7 @@ module _ (code : Code) (b : ℕ) where
       (λ (l : 8 < b). let f = ap (λ (x : CardCheck). x .number) (c .1 a (inr l)) in absurd (omega arith))
       (λ (l : b ≤ 8).
       ⊎-elim
-      (λ p. c .2 a h l .0 p)
+      (λ p. (omega arith, c .2 a h l .0 p))
       (λ x. let f = ap (λ (y : CardCheck). y .number) (x .2) in absurd (omega arith))
       (proof-or-weak (openedOf code) b (standing-accepted code (a .number)) (sized h l)))
       (over-or-not b))
@@ -85,17 +102,14 @@ pub flagged : demands.CardFlagged
 flagged code b handed e w fits clean t mask inside several =
     let a : Accepted code = record { handed = handed; number = proof-accepted code b e } in
     let cs = matrixOf code in
-    let z = clean-zero code a w fits .0 clean in
-    let placed = sym (append-nil cs) in
-    let start : 0 + t * b ≡ t * b = zero-add (t * b) in
-    let u = flipMask w (t * b) mask in
+    let k = code .k in
+    let within = data-within code a in
+    let proof = proof-of code b a e in
+    let u = flipMask w (cardAt (cardsFor code b) t .place) mask in
     let low : w < 2 ^ length cs = rw (places-length code a) fits in
-    let stays : u < 2 ^ length cs = rw start at (flips-stay cs [] cs [] placed b t mask inside several w low) in
-    let v =
-    rw start at
-    (card-flagged cs [] cs [] placed b t mask inside several w (oddIn (allRows (code .r)))
-    (code .k) (data-inside (allRows (code .r)) (sound-of code a))
-    (proof-of code b a e) z) in
+    let stays : u < 2 ^ length cs = card-stays cs k b within (proof .0) t mask inside several w low in
+    let z = clean-zero code a w fits .0 clean in
+    let v = card-flagged cs k b within (proof .0) t mask inside several w (oddIn (allRows (code .r))) (proof .1) z in
     let unstrayed : Unstrayed code u = rw (places-length code a) at stays in
     ⊎-elim
     (λ f. let x = answered-as code a u unstrayed Even f in (inl (x .verdict), x .place, x .hands))

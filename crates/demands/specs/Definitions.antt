@@ -9,6 +9,7 @@ use lib.ListN.{length, take, replicate}
 use Rattle.columns.specs.Mix.{column}
 use Rattle.code.specs.declared.Code.{Code}
 use Rattle.code.specs.declared.Refusal.{Refusal}
+use Rattle.code.specs.Rule.{matrixOf}
 use Rattle.code.specs.Opened.{openedOf, columnsOf}
 use Rattle.balance.specs.declared.RowBalance.{RowBalance}
 use Rattle.word.specs.declared.CheckWord.{CheckWord}
@@ -16,6 +17,7 @@ use Rattle.word.specs.Word.{wordOf, dataOf, checkOf}
 use Rattle.explain.specs.declared.Listing.{Listing}
 use Rattle.explain.specs.Explanations as explaining
 use Rattle.cards.specs.declared.CardCheck.{CardCheck}
+use Rattle.cards.specs.Cards.{Card, allCards}
 use Rattle.record.specs.declared.Tally.{Tally}
 use Rattle.record.specs.Layout.{dataSize, recordSize, entrySize, dataIn, checkIn}
 use Rattle.record.specs.Run.{recordAt}
@@ -48,6 +50,10 @@ dataColumns code = take (code .k) (code .columns)
 
 abbrev pub placesOf : Code → ℕ
 placesOf code = code .k + code .r
+
+-- its cards of b places, by their numbers
+abbrev pub cardsFor : Code → ℕ → List Card
+cardsFor code b = allCards b (code .k) (matrixOf code)
 
 -- ---- a word is one number: place p is its binary digit p, the data bits lowest
 

@@ -39,7 +39,7 @@ use Rattle.sheets.specs.Nearest.{zeroFloat, oneFloat, Held, NearestOnly}
 use Rattle.desk.specs.Answers.{checkBitsOf, judgementOf, rowsOf, writtenOf, readOf, explainedOf, cardsOf}
 use Rattle.demands.specs.Definitions.{Handed, Stored, Accepted, Refused, dataColumns, placesOf, Unstrayed, read, HandsBack, Clean}
 use Rattle.demands.specs.Definitions.{explanations, explanationsOf, told, onlyNumber, refusedRows, refusedWriting, refusedReading, refusedListing}
-use Rattle.demands.specs.Definitions.{refusedCards, allZero, PassRefused, recordOf, entryAt, room, needed, readAt, verdictOf, placeFor}
+use Rattle.demands.specs.Definitions.{cardsFor, refusedCards, allZero, PassRefused, recordOf, entryAt, room, needed, readAt, verdictOf, placeFor}
 use Rattle.demands.specs.Definitions.{answerOf, imageAfter, journalAfter, Done, countFrom}
 use Rattle.demands.specs.Definitions as words
 use Rattle.demands.specs.Sheets.{sheetFor, noFigures}
@@ -290,6 +290,19 @@ ExplainedFlips =
 
 -- ---- cards
 
+-- Cards begin again (02's request 105): the k data places are cut into cards of b places from place 0 on, the r check places into others
+-- from place k on. Either part may end in a short card, and no card has places of both. Numbers run on: the first check card has the number
+-- k / b, rounded up.
+abbrev pub CardsBeginAgain : Type 0
+CardsBeginAgain =
+    (code : Code) (b : ℕ) → Accepted code
+    → (length (cardsFor code b) ≡ (code .k + (b - 1)) / b + (code .r + (b - 1)) / b)
+    × ((t : ℕ) → t < (code .k + (b - 1)) / b
+    → cardAt (cardsFor code b) t ≡ record { place = t * b; columns = take b (drop (t * b) (dataColumns code)) })
+    × ((t : ℕ) → t < (code .r + (b - 1)) / b
+    → cardAt (cardsFor code b) ((code .k + (b - 1)) / b + t)
+    ≡ record { place = code .k + t * b; columns = take b (drop (code .k + t * b) (matrixOf code)) })
+
 -- The card check refuses in this order: the code's number and place; 8 for b below 2 or over 8; 9, told the first weak card and its
 -- smallest mask, exactly when the code is not card-proof for b.
 abbrev pub CardsRefuse : Type 0
@@ -297,9 +310,9 @@ CardsRefuse =
     (code : Code) (b : ℕ)
     → (Refused code → cardsOf code b ≡ refusedCards (judgementOf code))
     × (Accepted code → (b < 2) ⊎ (8 < b) → cardsOf code b ≡ refusedCards (onlyNumber 8))
-    × (Accepted code → 2 ≤ b → b ≤ 8 → (cardsOf code b ≡ refusedCards (onlyNumber 0)) ↔ CardProof b (matrixOf code) (matrixOf code))
+    × (Accepted code → 2 ≤ b → b ≤ 8 → (cardsOf code b ≡ refusedCards (onlyNumber 0)) ↔ CardProof (matrixOf code) (cardsFor code b))
     × (Accepted code → 2 ≤ b → b ≤ 8 → (card mask : ℕ)
-    → (cardsOf code b ≡ record { number = 9; told = 0; card = card; mask = mask }) ↔ FirstWeak b (matrixOf code) (matrixOf code) card mask)
+    → (cardsOf code b ≡ record { number = 9; told = 0; card = card; mask = mask }) ↔ FirstWeak (matrixOf code) (cardsFor code b) card mask)
     × (Accepted code → 2 ≤ b → b ≤ 8 → (cardsOf code b .number ≡ 0) ⊎ (cardsOf code b .number ≡ 9))
 
 -- What it is for: under a card-proof code two or more flips within one card of a clean word are flagged, never mended and never clean.
@@ -307,8 +320,8 @@ abbrev pub CardFlagged : Type 0
 CardFlagged =
     (code : Code) (b : ℕ) → Handed code → cardsOf code b .number ≡ 0
     → (w : ℕ) → Unstrayed code w → Clean code w
-    → (t mask : ℕ) → mask < 2 ^ length (cardAt b (matrixOf code) t) → 2 ≤ ones mask
-    → let u = flipMask w (t * b) mask in
+    → (t mask : ℕ) → mask < 2 ^ length (cardAt (cardsFor code b) t .columns) → 2 ≤ ones mask
+    → let u = flipMask w (cardAt (cardsFor code b) t .place) mask in
     ((read code u .verdict ≡ 3) ⊎ (read code u .verdict ≡ 4)) × (read code u .place ≡ 255) × HandsBack code (read code u) u
 
 -- ---- the tally

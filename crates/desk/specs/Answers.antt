@@ -26,7 +26,7 @@ use Rattle.desk.specs.declared.ReadWord.{ReadWord}
 
 -- the version of what a caller links: raised by each landing that changes a struct, a size or a meaning
 abbrev pub version : ℕ
-version = 2
+version = 3
 
 abbrev pub checkBitsOf : ℕ → CheckBits
 checkBitsOf k = wantedOf k

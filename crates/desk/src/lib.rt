@@ -16,7 +16,7 @@ use word::CheckWord;
 use word::Word;
 
 // The version of what a caller links: raised by each landing that changes a struct, a size or a meaning.
-const VERSION: usize = 2;
+const VERSION: usize = 3;
 
 #[no_mangle]
 pub extern "C" fn desk_version() -> usize
@@ -109,7 +109,7 @@ pub extern "C" fn desk_explain(
     explain::explain(code::open_code(code), word, limit, list)
 }
 
-// The card check: the first weak card and its smallest mask, where the number is 9.
+// The card check: the first weak card and its smallest mask, where the number is 9. Cards begin again at the first check place.
 #[no_mangle]
 pub extern "C" fn desk_cards(code: Code, b: usize) -> CardCheck
     ensures { λ a. ⌜ a ≡ cardsOf code b ⌝ }

@@ -11,12 +11,12 @@ use Rattle.word.specs.Verdicts.{verdictOn, readIn}
 use Rattle.word.specs.Writing.{writeIn}
 use Rattle.listing.specs.Sets.{flipAll, chosen, setsUpTo, those, bytesFor}
 use Rattle.explain.specs.Explanations.{explanations, listedIn, explainIn}
-use Rattle.cards.specs.Cards.{weakMask, firstFrom, tryMask, weakMaskIn, tryCard, weakCardIn}
+use Rattle.cards.specs.Cards.{cutInto, weakMask, firstFrom, tryMask, weakMaskIn, weakCardIn}
 use Rattle.cards.specs.Checking.{cardedIn}
 use Rattle.worked.specs.Table.{right, allRight, table}
 
 pub all-hold : allRight table ≡ true
 unfolding allRight table right ones onesIn mix singlesFrom singles placeIn solveFrom solve judgeColumn judgeFrom judgeColumns
     leftoverFrom judgeRest judgeIn sumOf balanceAt balancesFrom flippedIn verdictOn readIn writeIn flipAll chosen setsUpTo those
-    bytesFor explanations listedIn explainIn weakMask firstFrom tryMask weakMaskIn tryCard weakCardIn cardedIn
+    bytesFor explanations listedIn explainIn cutInto weakMask firstFrom tryMask weakMaskIn weakCardIn cardedIn
 all-hold = refl

@@ -1,5 +1,6 @@
--- Document 01, "The sample code, worked": the items marked P, as one table. Each row names a question and the answer that the exported
--- function is to give; `right` asks whether its definition gives it. Assumes nothing.
+-- Document 01, "The sample code, worked": the items marked P, as one table; cards as 02's request 105 has them, those that stay and those
+-- that it amends. Each row names a question and the answer that the exported function is to give; `right` asks whether its definition
+-- gives it. Assumes nothing.
 use mathlib.Core.Bool.{Bool, true, false, _&&_}
 use mathlib.Core.List.{List, [], _∷_, _++_}
 use Prim.Native.Nat.{ℕ, _-_}
@@ -107,6 +108,9 @@ table =
     ∷ listed sampleCode 0xA6 26 0 0 0 0 0 []
     ∷ listed sampleCode 0xA6 26 1 0 0 0 0 []
     ∷ listed sampleCode 0xA6 26 2 4 0 0 0 (lent 4)
-    ∷ carded two 3 0 0 0 0
-    ∷ carded two 4 9 0 0 13
+    ∷ carded sampleCode 2 0 0 0 0
+    ∷ carded sampleCode 3 9 0 1 7
+    ∷ carded sampleCode 4 9 0 0 11
+    ∷ carded two 3 9 0 1 7
+    ∷ carded two 4 9 0 1 7
     ∷ []

@@ -147,6 +147,10 @@ impl Code {
 
     /// Is every error of two or more bits within one card of `b` places flagged?
     ///
+    /// Cards take `b` places each from place 0 on, and begin again at place k, the first check place: no card has data
+    /// and check bits, and the last card of either part may be short. Numbers run on, so the first check card has the
+    /// number k / b, rounded up.
+    ///
     /// If not, the first weak card is told, and the smallest mask on it that breaks the rule; bit t is the card's place t.
     ///
     /// ```
@@ -156,6 +160,10 @@ impl Code {
     /// let code = Code::new(&[28, 26, 25, 22, 21, 19, 14, 13], 5)?;
     /// assert_eq!(code.card_check(2), Ok(()));
     /// assert_eq!(code.card_check(3), Err(Refusal::WeakCard { card: 1, mask: 7 }));
+    ///
+    /// // One short data card, then the check cards: rows 0, 1 and 2 make column 7.
+    /// let two = Code::new(&[7, 11], 4)?;
+    /// assert_eq!(two.card_check(3), Err(Refusal::WeakCard { card: 1, mask: 7 }));
     /// # Ok(())
     /// # }
     /// ```

@@ -123,9 +123,9 @@ pub struct CardCheck {
     pub number: usize,
     /// What goes with the number.
     pub told: usize,
-    /// With number 9, the first weak card.
+    /// With number 9, the first weak card: data cards are numbered first, then check cards, from `(k + b - 1) / b` on.
     pub card: usize,
-    /// With number 9, the smallest weak mask on that card.
+    /// With number 9, the smallest weak mask on that card; bit t is the card's place t.
     pub mask: usize,
 }
 
@@ -238,7 +238,8 @@ pub fn explain(code: &Code, data: u64, check: u16, limit: usize, list: &mut [u8]
     ask!(desk_explain(*code, data, check, limit, list.as_mut_ptr(), list.len()))
 }
 
-/// Whether every error of two or more bits within one card of `b` places is flagged; refuses with 8, 9.
+/// Whether every error of two or more bits within one card of `b` places is flagged; refuses with 8, 9. Cards begin
+/// again at place k.
 pub fn cards(code: &Code, b: usize) -> CardCheck {
     ask!(desk_cards(*code, b))
 }

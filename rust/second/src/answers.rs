@@ -65,7 +65,7 @@ pub struct Explained {
 pub struct CardsChecked {
     pub number: usize,
     pub told: usize,
-    /// With number 9: the first weak card.
+    /// With number 9: the first weak card; check cards are numbered on from the data cards.
     pub card: usize,
     /// With number 9: the smallest mask on that card.
     pub mask: usize,

@@ -10,10 +10,21 @@ fn is_flagged(code: &Accepted, word: &[bool]) -> bool {
     code.verdict(word).0 > 2
 }
 
+/// The places of each card, by the cards' numbers: b places fill a card, and none has data and check places.
+pub fn cards(code: &Accepted, b: usize) -> Vec<Vec<usize>> {
+    let mut cards: Vec<Vec<usize>> = Vec::new();
+    for place in 0..code.n() {
+        match cards.last_mut() {
+            Some(card) if card.len() < b && place != code.k => card.push(place),
+            _ => cards.push(vec![place]),
+        }
+    }
+    cards
+}
+
 /// The first card, and on it the smallest mask, whose flips in the given clean word are not flagged.
 pub fn weak_spot(code: &Accepted, clean: &[bool], b: usize) -> Option<(usize, usize)> {
-    let places: Vec<usize> = (0..code.n()).collect();
-    for (card, on_card) in places.chunks(b).enumerate() {
+    for (card, on_card) in cards(code, b).iter().enumerate() {
         for mask in 0..1usize << on_card.len() {
             let chosen = switches(mask as u64, on_card.len());
             if ones(&chosen) < 2 {
@@ -63,5 +74,15 @@ mod tests {
             assert_eq!(weak_spot(&sample, &clean, 3), Some((1, 7)));
             assert_eq!(weak_spot(&sample, &clean, 4), Some((0, 11)));
         }
+    }
+
+    #[test]
+    fn cards_begin_again_at_the_first_check_place() {
+        let sample = Accepted::new(&sample_code()).unwrap();
+        assert_eq!(cards(&sample, 8), [vec![0, 1, 2, 3, 4, 5, 6, 7], vec![8, 9, 10, 11, 12]]);
+        assert_eq!(cards(&sample, 5), [vec![0, 1, 2, 3, 4], vec![5, 6, 7], vec![8, 9, 10, 11, 12]]);
+        let numbers: Vec<usize> =
+            (2..=8).map(|b| cards(&sample, b).iter().position(|card| card[0] == 8).unwrap()).collect();
+        assert_eq!(numbers, [4, 3, 2, 2, 2, 2, 1]);
     }
 }

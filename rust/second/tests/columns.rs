@@ -88,7 +88,8 @@ fn card_proof_is_a_matter_of_columns() {
             let mixed = chosen.fold(0, |mixed, t| mixed ^ card[t]);
             mask.count_ones() > 1 && (mixed == 0 || columns.contains(&mixed))
         };
-        let first = columns.chunks(b).enumerate().find_map(|(number, card)| {
+        let (data, check) = columns.split_at(code.k);
+        let first = data.chunks(b).chain(check.chunks(b)).enumerate().find_map(|(number, card)| {
             let mask = (0..1 << card.len()).find(|&mask| is_weak(card, mask))?;
             Some(weak(number, mask))
         });
@@ -123,7 +124,8 @@ fn three_flips_in_a_proof_card_are_flagged() {
         let code = cases.sound_code();
         let clean = (1, write(&code, 1).check);
         for b in (3..=8).filter(|&b| card_check(&code, b).number == 0) {
-            for first in (0..code.k + code.r - 2).step_by(b) {
+            let firsts = (0..code.k).step_by(b).filter(|first| first + 3 <= code.k);
+            for first in firsts.chain((code.k..code.k + code.r - 2).step_by(b)) {
                 let word = (first..first + 3).fold(clean, |word, place| flipped(&code, word, place));
                 assert_eq!(read(&code, word.0, word.1).verdict, 4);
                 flagged += 1;

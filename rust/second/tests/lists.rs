@@ -70,6 +70,16 @@ fn a_short_last_card_counts() {
 }
 
 #[test]
+fn no_card_has_data_and_check_places() {
+    // Columns 28 and 31 with row 0 make row 1, but stand on another card.
+    assert_eq!(card_check(&Code::of(&[28, 31], 5), 4), proof());
+    // The data part's short card counts: columns 31, 41 and 19 make 37.
+    assert_eq!(card_check(&Code::of(&[37, 38, 62, 21, 31, 41, 19], 6), 4), weak(1, 7));
+    // Behind the data part's short card numbers run on: rows 4, 5 and 6 make 112.
+    assert_eq!(card_check(&Code::of(&[112, 25, 91, 61, 76], 7), 4), weak(3, 7));
+}
+
+#[test]
 fn cards_of_two_are_always_proof() {
     let mut cases = Cases::new(31);
     for _ in 0..500 {

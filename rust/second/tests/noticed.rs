@@ -1,6 +1,7 @@
 //! A comparison is worth what it notices: desks with one fault each, among them every "easy way to go wrong".
 
 use second::*;
+use std::ops::Range;
 
 #[derive(Clone, Copy, PartialEq, Debug)]
 enum Fault {
@@ -32,7 +33,14 @@ enum Fault {
     RefusedListHasLength,
     // Cards.
     LargestMask,
-    ShortCardIsSkipped,
+    ShortDataCardIsSkipped,
+    ShortCheckCardIsSkipped,
+    CardsRunStraightOn,
+    DataCardIsJoined,
+    CheckCardsAreLeftOut,
+    CheckCardsFromZero,
+    MaskFromThePart,
+    OnlyDataColumnsCount,
     // Images.
     RunBeforeLength,
     JournalBeforeRun,
@@ -61,6 +69,21 @@ enum Fault {
 
 use Fault::*;
 
+/// The first of these cards that is weak, where what a mask makes is compared with the columns below `compared`.
+fn first_weak(code: &Code, cards: impl Iterator<Item = Range<usize>>, compared: usize) -> CardsChecked {
+    let columns: Vec<u16> = code.columns[..code.k].iter().copied().chain((0..code.r).map(|row| 1 << row)).collect();
+    for (number, card) in cards.enumerate() {
+        let made =
+            |mask: usize| card.clone().filter(|p| mask >> (p - card.start) & 1 == 1).fold(0, |s, p| s ^ columns[p]);
+        let is_weak =
+            |mask: &usize| mask.count_ones() > 1 && (made(*mask) == 0 || columns[..compared].contains(&made(*mask)));
+        if let Some(mask) = (0..1 << card.len()).find(is_weak) {
+            return CardsChecked { number: 9, told: 0, card: number, mask };
+        }
+    }
+    CardsChecked::default()
+}
+
 struct Sloppy(Fault);
 
 impl Sloppy {
@@ -70,7 +93,7 @@ impl Sloppy {
 
     /// The code as this desk takes it.
     fn taken(&self, code: &Code) -> Code {
-        let without = |places: std::ops::Range<usize>| {
+        let without = |places: Range<usize>| {
             let mut code = *code;
             code.columns[places].fill(0);
             code
@@ -165,9 +188,26 @@ impl Desk for Sloppy {
 
     fn card_check(&self, code: &Code, b: usize) -> CardsChecked {
         let answer = card_check(code, b);
+        if !(answer.number == 9 || answer.number == 0) {
+            return answer;
+        }
+        let (k, n, data_cards) = (code.k, code.k + code.r, (code.k + b - 1) / b);
+        let data = |end: usize| (0..k).step_by(b).map(move |first| first..end.min(first + b));
+        let check = (k..n).step_by(b).map(|first| first..n.min(first + b));
+        let is_weak = answer.number == 9;
+        let past = answer.card.saturating_sub(data_cards);
         match self.0 {
-            LargestMask if answer.number == 9 => CardsChecked { mask: (1 << b) - 1, ..answer },
-            ShortCardIsSkipped if answer.number == 9 && (answer.card + 1) * b > code.k + code.r => Default::default(),
+            LargestMask if is_weak => CardsChecked { mask: (1 << b) - 1, ..answer },
+            ShortDataCardIsSkipped if is_weak && answer.card < data_cards && (answer.card + 1) * b > k => {
+                Default::default()
+            }
+            ShortCheckCardIsSkipped if answer.card >= data_cards && (past + 1) * b > code.r => Default::default(),
+            CheckCardsAreLeftOut if answer.card >= data_cards => Default::default(),
+            CheckCardsFromZero if answer.card >= data_cards => CardsChecked { card: past, ..answer },
+            MaskFromThePart if answer.card >= data_cards => CardsChecked { mask: answer.mask << (past * b), ..answer },
+            CardsRunStraightOn => first_weak(code, (0..n).step_by(b).map(|first| first..n.min(first + b)), n),
+            DataCardIsJoined => first_weak(code, data(n).chain(check), n),
+            OnlyDataColumnsCount => first_weak(code, data(k).chain(check), k),
             _ => answer,
         }
     }
@@ -266,7 +306,9 @@ fn every_fault_of_a_list_or_a_card_is_noticed() {
     let amounts = Amounts { lists: 2_000, cards: 500, ..NO_CASES };
     noticed(&[PairsComeTwice, LimitBeforeStray, HalfAnEntryIsRoom], "explain", amounts);
     noticed(&[RefusedListIsWritten, RefusedListHasLength, ListTailIsCleared], "explain", amounts);
-    noticed(&[LargestMask, ShortCardIsSkipped], "card check", amounts);
+    noticed(&[LargestMask, ShortDataCardIsSkipped, ShortCheckCardIsSkipped], "card check", amounts);
+    noticed(&[CardsRunStraightOn, DataCardIsJoined], "card check", amounts);
+    noticed(&[CheckCardsAreLeftOut, CheckCardsFromZero, MaskFromThePart, OnlyDataColumnsCount], "card check", amounts);
 }
 
 #[test]
@@ -289,7 +331,8 @@ fn every_fault_of_a_sheet_is_noticed() {
 fn the_worked_cases_notice_every_easy_way_to_go_wrong_and_every_byte() {
     let ways = [EvenIsMended, OddIsMended, ChecksAreNotCompared, CheckBitsStayUnmended, PairsComeTwice];
     let bytes = [RefusedListIsWritten, ListTailIsCleared, RefusedPassIsNoted, NothingIsMended];
-    for fault in ways.into_iter().chain(bytes) {
+    let amended = [CardsRunStraightOn, DataCardIsJoined, CheckCardsAreLeftOut, CheckCardsFromZero];
+    for fault in ways.into_iter().chain(bytes).chain(amended) {
         assert!(!worked(&Sloppy(fault)).is_empty(), "{:?}", fault);
     }
 }

@@ -1,6 +1,6 @@
 //! The streams of cases: fixed by their seed, and wide enough that every line of the document is asked.
 
-use second::cases::{edges, HUGE};
+use second::cases::{edges, CardCase, HUGE};
 use second::*;
 use std::collections::{BTreeSet, HashSet};
 
@@ -133,12 +133,19 @@ fn lists_are_empty_and_full_and_in_every_room() {
 #[test]
 fn cards_are_proof_and_weak_for_every_b() {
     let mut cases = Cases::new(7);
-    let mut seen = HashSet::new();
+    let (mut seen, mut weak) = (HashSet::new(), HashSet::new());
     for _ in 0..5_000 {
-        let case = cases.card();
-        let answer = card_check(&case.code, case.b);
-        seen.insert((case.b, answer.number));
+        let CardCase { code, b } = cases.card();
+        let answer = card_check(&code, b);
+        seen.insert((b, answer.number));
+        if answer.number == 9 {
+            let data_cards = (code.k + b - 1) / b;
+            let is_data = answer.card < data_cards;
+            let left = if is_data { code.k - answer.card * b } else { code.r - (answer.card - data_cards) * b };
+            weak.insert((is_data, left < b));
+        }
     }
+    assert_eq!(weak.len(), 4, "data and check cards, short and not");
     assert!(seen.contains(&(2, 0)) && !seen.contains(&(2, 9)), "two different odd columns mix to no column");
     for b in 3..=8 {
         assert!(seen.contains(&(b, 0)) && seen.contains(&(b, 9)), "b {}", b);

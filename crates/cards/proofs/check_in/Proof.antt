@@ -8,8 +8,8 @@ use borrow.Author.Needs.{needs}
 use Rattle.cards.proofs.check_in.Statement.{statement}
 use Rattle.cards.proofs.check_in.Tie as tie
 
-weak-card-in-requires : tie.Need-weak-card-in-requires
-weak-card-in-requires c κs = search needs
+first-weak-requires : tie.Need-first-weak-requires
+first-weak-requires c κs = search needs
 
 enum-told : tie.Need-enum-told
 enum-told c = search needs
@@ -29,26 +29,27 @@ returns c =
     let w = t .before .before in
     let a = w .before .before .before .before .args in
     c .refused-cards .ensures
-    ∙ sym (size-fits (a .columns .now) (a .b) (omega arith) (omega arith) Nothing (sym (t .enum-told .given .1) ∙ w .weak-card-in .ensures))
+    ∙ sym (size-fits (a .columns .now) (a .k) (a .b) (omega arith) (omega arith) Nothing
+    (sym (t .enum-told .given .1) ∙ w .first-weak .ensures))
 
 returns-2 : tie.Need-returns-2
 returns-2 c =
     let w = c .before .before .before in
     let a = w .before .before .before .before .args in
-    sym (size-fits (a .columns .now) (a .b) (omega arith) (omega arith) _ (sym (c .before .card .given .1) ∙ w .weak-card-in .ensures))
+    sym (size-fits (a .columns .now) (a .k) (a .b) (omega arith) (omega arith) _ (sym (c .before .card .given .1) ∙ w .first-weak .ensures))
 
 returns-3 : tie.Need-returns-3
 returns-3 c =
     let a = c .before .before .before .args in
     c .refused-cards2 .ensures
-    ∙ sym (size-out (a .columns .now) (a .b)
+    ∙ sym (size-out (a .columns .now) (a .k) (a .b)
     (⊎-elim (λ w. let h = w .taken in inl (omega arith)) (λ w. let h = w .1 .left in inr (omega arith)) (c .before .if1 .came)))
 
 pub check-in-spec : {M : Type 1} → statement M
 check-in-spec =
     tie.close
     (tie.spec
-    weak-card-in-requires
+    first-weak-requires
     enum-told
     refused-cards-requires
     enum-known-card
