@@ -69,5 +69,8 @@ int main(void) {
     FIELD(SheetAnswer, told);
     FIELD(SheetAnswer, yes);
     FIELD(SheetAnswer, sheet);
+    STRUCT(Made);
+    FIELD(Made, number);
+    FIELD(Made, code);
     return 0;
 }

@@ -241,6 +241,31 @@ static void sheet_refusals(void) {
            same_sheet(desk_sheet_open(65535, 65535, 65535, 65535), 0, true, 65535, 1, 1));
 }
 
+/* Whether this number is answered, with a code of nothing but zeros. */
+static int makes_nothing(DeskMade a, size_t number) {
+    static const uint16_t zeros[DESK_COLUMNS];
+    return a.number == number && a.code.k == 0 && a.code.r == 0 &&
+           memcmp(a.code.columns, zeros, sizeof zeros) == 0;
+}
+
+static void made_fields(void) {
+    static const uint16_t columns[DESK_COLUMNS] = {7, 11, 13, 14, 19, 21, 22, 25, 26, 28, 31};
+    DeskMade a = desk_make(11, 5);
+    expect("desk_make: every field",
+           a.number == 0 && a.code.k == 11 && a.code.r == 5 && memcmp(a.code.columns, columns, sizeof columns) == 0);
+    a = desk_make(64, 16);
+    expect("desk_make: the largest", a.number == 0 && a.code.k == 64 && a.code.r == 16 && a.code.columns[0] == 7 &&
+                                         a.code.columns[63] == 274 && desk_judge(a.code).number == 0);
+    expect("desk_make: refused by 1",
+           makes_nothing(desk_make(0, 5), DESK_DATA_BITS) && makes_nothing(desk_make(65, 2), DESK_DATA_BITS) &&
+               makes_nothing(desk_make(SIZE_MAX, SIZE_MAX), DESK_DATA_BITS));
+    expect("desk_make: refused by 2",
+           makes_nothing(desk_make(64, 2), DESK_CHECK_BITS) && makes_nothing(desk_make(1, 17), DESK_CHECK_BITS) &&
+               makes_nothing(desk_make(1, SIZE_MAX), DESK_CHECK_BITS));
+    expect("desk_make: refused by 15",
+           makes_nothing(desk_make(12, 5), DESK_COLUMN_ROOM) && makes_nothing(desk_make(64, 3), DESK_COLUMN_ROOM));
+}
+
 int main(void) {
     version();
     code_fields();
@@ -252,5 +277,6 @@ int main(void) {
     refusals_leave_buffers();
     sheet_fields();
     sheet_refusals();
+    made_fields();
     return finish();
 }

@@ -71,6 +71,20 @@ static void ask_wanted(size_t from, size_t to) {
     }
 }
 
+/* The next questions are about the code that is made. */
+static void ask_make(size_t k, size_t r) {
+    DeskMade a = desk_make(k, r);
+    code = a.code;
+    printf(" %zu %zu %zu", a.number, code.k, code.r);
+    size_t places = DESK_COLUMNS;
+    while (places > 0 && code.columns[places - 1] == 0) {
+        places--;
+    }
+    for (size_t i = 0; i < places; i++) {
+        printf(" %d", code.columns[i]);
+    }
+}
+
 static void ask_ones(void) {
     size_t ones = code.r;
     for (size_t i = 0; i < code.k; i++) {
@@ -108,6 +122,8 @@ static void ask(const char *line) {
     uint16_t check;
     if (sscanf(line, "wanted %zu %zu", &a, &b) == 2) {
         ask_wanted(a, b);
+    } else if (sscanf(line, "make %zu %zu", &a, &b) == 2) {
+        ask_make(a, b);
     } else if (strcmp(line, "judge ") == 0) {
         DeskJudgement answer = desk_judge(code);
         printf(" %zu %zu", answer.number, answer.told);

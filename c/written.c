@@ -24,6 +24,7 @@ void desk_pass(void *answer, Code code, uint8_t *image, size_t image_length, siz
 void desk_sheet_ceiling(void *answer, double hours, size_t devices, size_t words, size_t mended, double high);
 void desk_sheet_band(void *answer, double hours, size_t devices, size_t words, size_t mended, double low, double high);
 void desk_sheet_open(void *answer, double hours, size_t devices, size_t words, size_t mended);
+void desk_make(void *answer, size_t k, size_t r);
 
 static const Code sample = {.columns = {28, 26, 25, 22, 21, 19, 14, 13}, .k = 8, .r = 5};
 
@@ -46,8 +47,10 @@ static void pass_to(void *answer) {
 static void ceiling_to(void *answer) { desk_sheet_ceiling(answer, 667, 8192, 4, 1, 0.5); }
 static void band_to(void *answer) { desk_sheet_band(answer, 667, 8192, 4, 1, 0.5, 1); }
 static void open_to(void *answer) { desk_sheet_open(answer, 0, 8192, 4, 1); }
+static void make_to(void *answer) { desk_make(answer, 8, 5); }
+static void refused_make_to(void *answer) { desk_make(answer, 12, 5); }
 
-enum { GUARD = 64, LARGEST = 80 };
+enum { GUARD = 64, LARGEST = 152 };
 
 /* Whether all bytes of the answer from `from` up to `to` are written, and nothing outside its `size` bytes. */
 static int writes_only(void (*call)(void *), size_t from, size_t to, size_t size) {
@@ -83,5 +86,7 @@ int main(void) {
     expect("desk_sheet_ceiling writes its fields, and no other", writes_sheet(ceiling_to));
     expect("desk_sheet_band writes its fields, and no other", writes_sheet(band_to));
     expect("desk_sheet_open writes its fields where it refuses too, and no other", writes_sheet(open_to));
+    expect("desk_make writes all 152 bytes of its answer, and no other", writes_only(make_to, 0, 152, 152));
+    expect("desk_make writes all of them where it refuses too", writes_only(refused_make_to, 0, 152, 152));
     return finish();
 }

@@ -6,9 +6,9 @@
  * by every call that has one.
  *
  * Answers. `number` is 0 (done) or the number of the refusal, and `told` is what goes with that number in the table
- * below, else 0. Number 9 tells two values, in fields of their own. DeskCheckBits tells nothing, and has no `told`.
- * A refusal has 0 in every other field, so `yes` is false, and changes no byte that was lent. Answers have padding,
- * whose bytes may be anything: compare fields, and not the whole by memcmp.
+ * below, else 0. Number 9 tells two values, in fields of their own. DeskCheckBits and DeskMade tell nothing, and have no
+ * `told`. A refusal has 0 in every other field, so `yes` is false, and changes no byte that was lent. Answers have
+ * padding, whose bytes may be anything: compare fields, and not the whole by memcmp.
  *
  * What is counted. `list_length`, `image_length` and `journal_length` are bytes. Nothing else is:
  *   start, end  records, from the image's first; the record at `end` is not in the run
@@ -65,6 +65,7 @@ enum DeskNumber {
     DESK_IMAGE_LENGTH = 12,   /* image length no multiple of 10, or over 65,530 */
     DESK_JOURNAL_ROOM = 13,   /* journal room (its length / 24, down) below the entries needed; told: entries needed */
     DESK_RUN = 14,            /* run's start above its end, or its end above the number of records */
+    DESK_COLUMN_ROOM = 15,    /* making a code: k is over 2^(r-1) - r */
     DESK_SHEET = 19,          /* device count 0 or over 65,535, word count 0 or over 65,535, mended above words, hours
                                  not finite or not above zero, a limit's figure not finite or below zero, a band upside
                                  down */
@@ -182,13 +183,19 @@ typedef struct DeskSheetAnswer {
     DeskSheet sheet;
 } DeskSheetAnswer;
 
+/* The answer of desk_make: the code that is made; k, r and every column are 0 where it is refused. */
+typedef struct DeskMade {
+    size_t number;
+    DeskCode code;
+} DeskMade;
+
 /* The version of the archive: DESK_VERSION of the header that goes with it. */
 size_t desk_version(void);
 
 /* The smallest number of check bits for which a code of k data bits exists; refuses with 1. */
 DeskCheckBits desk_check_bits(size_t k);
 
-/* Whether this is a code; refuses with 1 to 6, as every question below does. */
+/* Whether this is a code; refuses with 1 to 6 and 21, as every question about a code does. */
 DeskJudgement desk_judge(DeskCode code);
 
 /* For each row: r times the ones in that row, less all ones of the matrix. */
@@ -230,6 +237,14 @@ DeskSheetAnswer desk_sheet_band(double hours, size_t devices, size_t words, size
 
 /* There is no limit: yes. */
 DeskSheetAnswer desk_sheet_open(double hours, size_t devices, size_t words, size_t mended);
+
+/*
+ * Makes the code of k data bits and r check bits: of the numbers below 2^r the first k that have three ones, then five,
+ * then seven and so on, within a count the smaller first. Every code that is made is accepted, and no accepted code of
+ * the same k and r has fewer ones in all its columns. Refuses with 1, 2, 15, each of which tells nothing; 15 means that
+ * r is below the check bits wanted for k.
+ */
+DeskMade desk_make(size_t k, size_t r);
 
 #ifdef __cplusplus
 }

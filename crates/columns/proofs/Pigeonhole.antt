@@ -6,13 +6,13 @@ use native.Mathlib.Nat.{le-refl, not-suc-le-zero}
 use native.Mathlib.Omega.{arith}
 
 -- past v a number moves down by one; and up again
-abbrev down : ℕ → ℕ → ℕ
+abbrev pub down : ℕ → ℕ → ℕ
 down v x = x - min 1 (x - v)
 
-abbrev up : ℕ → ℕ → ℕ
+abbrev pub up : ℕ → ℕ → ℕ
 up v x = x + min 1 (suc x - v)
 
-up-down : (v x : ℕ) → x ≢ v → up v (down v x) ≡ x
+pub up-down : (v x : ℕ) → x ≢ v → up v (down v x) ≡ x
 up-down v x h = omega arith
 
 -- m numbers below n that all differ are no more than n: leave out the last, and those past it move down

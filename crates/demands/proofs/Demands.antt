@@ -8,6 +8,7 @@ use Rattle.demands.proofs.OfLists as lists
 use Rattle.demands.proofs.OfCards as cards
 use Rattle.demands.proofs.OfPasses as passes
 use Rattle.demands.proofs.OfSheets as sheets
+use Rattle.demands.proofs.OfMaking as making
 
 pub sizes : demands.Sizes
 sizes = tallies.sizes
@@ -173,3 +174,20 @@ share-ends = sheets.share-ends
 
 pub station-nearest : demands.StationNearest
 station-nearest = sheets.station-nearest
+
+-- ---- making a code
+
+pub making-exactly : demands.MakingExactly
+making-exactly = making.making-exactly
+
+pub made-accepted : demands.MadeAccepted
+made-accepted = making.made-accepted-code
+
+pub made-in-order : demands.MadeInOrder
+made-in-order = making.made-in-order
+
+pub made-least : demands.MadeLeast
+made-least = making.made-least-code
+
+pub making-wanted : demands.MakingWanted
+making-wanted = making.making-wanted

@@ -1,6 +1,7 @@
 pub mod Codes
 pub mod Words
 pub mod OfJudge
+pub mod OfMaking
 pub mod OfCodes
 pub mod OfWords
 pub mod OfLists

@@ -1,67 +1,70 @@
--- The demands on check bits wanted and on the row balance, proved from the layers' laws. Assumes nothing.
-use mathlib.Core.Path.{_≡_, refl, sym, ap, subst, _∙_}
+-- The demands on check bits wanted and on the row balance, proved from the layers' laws: the code that check bits wanted asks for is the
+-- one that is made. Assumes nothing.
+use mathlib.Core.Path.{_≡_, sym, ap, subst}
 use mathlib.Core.Logic.{⊎-elim}
-use Prim.Native.Nat.{ℕ, _+_, _*_, _-_, _≤_, _<_, _^_}
+use Prim.Native.Nat.{ℕ, _*_, _-_, _≤_, _<_, _^_}
 use native.Mathlib.Omega.{arith}
 use lib.IntN.{pos, _+ℤ_}
-use lib.ListN.{length, getD}
+use lib.ListN.{getD}
 use Rattle.parity.proofs.Ones.{below-or-not}
 use Rattle.code.specs.declared.Code.{Code}
 use Rattle.code.specs.declared.Judged.the-variants as judged
-use Rattle.code.specs.Rule.{matrixOf}
-use Rattle.code.specs.Opened.{standingOf, judgementBy, openedOf, columnsOf}
+use Rattle.code.specs.Rule.{Limits}
+use Rattle.code.specs.Opened.{openedOf}
 use Rattle.wanted.specs.declared.CheckBits.{CheckBits}
-use Rattle.wanted.specs.Wanted.{Exists}
+use Rattle.wanted.specs.Wanted.{bandOf}
 use Rattle.wanted.proofs.Bands.{wanted-inside, wanted-refused, refused-exactly}
-use Rattle.wanted.proofs.Least.{wanted-exists, wanted-least, code-exists-exactly}
-use Rattle.balance.specs.Balance.{rowOnes, allOnes, sumℤ}
+use Rattle.wanted.proofs.Least.{band-fits}
+use Rattle.least.proofs.Codes.{accepted-room}
+use Rattle.least.proofs.Wanted.{no-room-below}
+use Rattle.balance.specs.Balance.{rowOnes, allOnes}
 use Rattle.balance.proofs.Answer.{refused-balances, accepted-number, length-balances, balance-row, balance-past}
 use Rattle.balance.proofs.Sum.{accepted-balances-zero, refused-balances-zero}
-use Rattle.desk.specs.Answers.{checkBitsOf, judgementOf, rowsOf}
-use Rattle.demands.specs.Definitions.{Accepted, Stored, placesOf}
+use Rattle.desk.specs.Answers.{judgementOf, rowsOf, madeOf}
+use Rattle.demands.specs.Definitions.{Accepted, Stored}
+use Rattle.demands.specs.Making.{IsMade}
 use Rattle.demands.specs.Demands as demands
-use Rattle.demands.proofs.Codes.{judgeOf, judgement-is, judged-of, standing-accepted, standing-refused, columns-are, checks-are, limits-of, sound-of}
+use Rattle.demands.proofs.Codes.{judged-of, standing-accepted, standing-refused, columns-are, checks-are, limits-of, sound-of}
+use Rattle.demands.proofs.OfMaking.{making-exactly, made-accepted-code}
 
 -- ---- check bits wanted
 
 pub check-bits-refused : demands.CheckBitsRefused
 check-bits-refused k = (refused-exactly k, wanted-refused k)
 
--- a code that the judge accepts is one that the desk accepts
-handed-about : (k r : ℕ) → Exists k r → (code : Code) × Stored code × Accepted code × (code .k ≡ k) × (code .r ≡ r)
-handed-about k r x = (
-  x .code,
-  x .fits,
-  record {
-    handed = x .places;
-    number = ap (λ f. f .number) (judgement-is (x .code)) ∙ ap (λ v. judgementBy (standingOf v) .number) (x .accepted);
-  },
-  x .bits,
-  x .checks,
-)
+-- the code that exists is the one that is made
+made-code : (k r : ℕ) → IsMade k r → (code : Code) × Stored code × Accepted code × (code .k ≡ k) × (code .r ≡ r)
+made-code k r e = let m = made-accepted-code k r e in (madeOf k r .code, m .1, m .0, m .2, m .3)
 
-taken-from : (k r : ℕ) → (code : Code) × Stored code × Accepted code × (code .k ≡ k) × (code .r ≡ r) → Exists k r
-taken-from k r x = record {
-  code = x .0;
-  bits = x .3;
-  checks = x .4;
-  fits = x .1;
-  places = x .2 .handed;
-  accepted = judged-of (x .0) (x .2 .number);
-}
+-- and an accepted code leaves room for itself
+room-of-code : (code : Code) → Accepted code → code .k ≤ 2 ^ (code .r - 1) - code .r
+room-of-code code a = accepted-room 64 (code .columns) (code .k) (code .r) (a .handed) (judged-of code (a .number))
 
 pub check-bits-least : demands.CheckBitsLeast
 check-bits-least k some few =
-    let e = wanted-inside k some few in (
-      ap (λ (b : CheckBits). b .number) e,
-      handed-about k _ (wanted-exists k some few),
-      λ code a f. subst (λ (n : ℕ). checkBitsOf n .bits ≤ code .r) f (wanted-least code (a .handed) (judged-of code (a .number))),
+    let e = wanted-inside k some few in
+    let b = band-fits k some few in
+    let bits = ap (λ (c : CheckBits). c .bits) e in
+    let limits : Limits 64 k (bandOf k) =
+    record { sized = record { some = some; few = few }; least = b .0; top = omega (arith, b .1) } in (
+      ap (λ (c : CheckBits). c .number) e,
+      subst (λ (r : ℕ). (code : Code) × Stored code × Accepted code × (code .k ≡ k) × (code .r ≡ r)) (sym bits)
+          (made-code k (bandOf k) (making-exactly k (bandOf k) .3 .1 (limits, omega (arith, b .2)))),
+      λ code a f.
+          let own = limits-of code a in
+          rw bits
+          (⊎-elim
+          (λ (l : code .r < bandOf k). absurd (omega (arith, room-of-code code a, f, no-room-below k (code .r) some few (own .least) .1 l)))
+          (λ (l : bandOf k ≤ code .r). l)
+          (below-or-not (code .r) (bandOf k))),
     )
 
 pub check-bits-room : demands.CheckBitsRoom
 check-bits-room k r some few least top =
-    let x = code-exists-exactly k r some few least top in
-    (λ c. x .0 (taken-from k r c), λ h. handed-about k r (x .1 h))
+    let limits : Limits 64 k r = record { sized = record { some = some; few = few }; least = least; top = top } in (
+      λ c. omega (arith, rw (c .3, c .4) at (room-of-code (c .0) (c .2))),
+      λ h. made-code k r (making-exactly k r .3 .1 (limits, omega arith)),
+    )
 
 -- ---- row balance
 

@@ -1,7 +1,8 @@
 -- THE DEMANDS: what the desk promises of its exported functions, each a named proposition, proved in proofs/Demands.antt. Numbers, values
 -- and words are document 01's. Definitions.antt beside this page has the words used here, crate desk's Answers.antt what each function
 -- answers. In order: records and entries; the code; writing and reading one word; explanations; cards; the tally; the pass;
--- station sheets (02's request 107; their words in Sheets.antt). Assumes nothing.
+-- station sheets (02's request 107; their words in Sheets.antt); making a code (02's request 101; its words in Making.antt).
+-- Assumes nothing.
 use mathlib.Core.Path.{_≡_}
 use mathlib.Core.Logic.{_≢_, _⊎_, _↔_}
 use mathlib.Core.Bool.{true, false, cond}
@@ -21,7 +22,7 @@ use Rattle.columns.specs.Mix.{column, flipped}
 use Rattle.columns.specs.Bits.{bitAt, rowBit}
 use Rattle.code.specs.declared.Code.{Code}
 use Rattle.code.specs.declared.Judged.the-variants as judged
-use Rattle.code.specs.Rule.{matrixOf, Limits, SaysOfCode}
+use Rattle.code.specs.Rule.{matrixOf, Sized, Limits, SaysOfCode}
 use Rattle.balance.specs.Balance.{rowOnes, allOnes, sumℤ}
 use Rattle.record.specs.Bytes.{AllBytes}
 use Rattle.record.specs.Layout.{dataSize, recordSize, entrySize, imageLimit, recordBytes, dataIn, checkIn, Entry, entryBytes, entryIn}
@@ -43,6 +44,9 @@ use Rattle.demands.specs.Definitions.{cardsFor, refusedCards, allZero, P
 use Rattle.demands.specs.Definitions.{answerOf, imageAfter, journalAfter, Done, countFrom}
 use Rattle.demands.specs.Definitions as words
 use Rattle.demands.specs.Sheets.{sheetFor, noFigures}
+use Rattle.least.specs.Order.{Before}
+use Rattle.desk.specs.Answers.{madeOf}
+use Rattle.demands.specs.Making.{IsMade, noCode}
 
 -- ---- records and entries
 
@@ -484,3 +488,42 @@ StationNearest =
     let above = num (q .hours) in
     let below = den (q .hours) * q .devices in
     (station ≡ Ieee.round binary64 false above below) × NearestOnly binary64 station above below
+
+-- ---- making a code
+
+-- Refused by 1, 2 and 15, each exactly when its row of the table holds and no earlier one, with a code of zeros; made, exactly when none
+-- does. 15 is for a k over 2 ^ (r - 1) - r.
+abbrev pub MakingExactly : Type 0
+MakingExactly =
+    (k r : ℕ)
+    → ((madeOf k r ≡ noCode 1) ↔ ((k ≡ 0) ⊎ (64 < k)))
+    × ((madeOf k r ≡ noCode 2) ↔ (Sized 64 k × ((r < 3) ⊎ (16 < r))))
+    × ((madeOf k r ≡ noCode 15) ↔ (Limits 64 k r × (2 ^ (r - 1) - r < k)))
+    × (IsMade k r ↔ (Limits 64 k r × (k ≤ 2 ^ (r - 1) - r)))
+
+-- What is made is an accepted code of k data bits and r check bits; its places past k are 0.
+abbrev pub MadeAccepted : Type 0
+MadeAccepted =
+    (k r : ℕ) → IsMade k r
+    → let code = madeOf k r .code in
+    Accepted code × Stored code × (code .k ≡ k) × (code .r ≡ r) × ((p : ℕ) → k ≤ p → p < 64 → column (code .columns) p ≡ 0)
+
+-- Its columns stand in order: three ones before five, five before seven and so on, within a count the smaller number first. And nothing is
+-- left out: a number below 2 ^ r with three ones, or five, or seven and so on, is one of the k columns, or comes behind them all.
+abbrev pub MadeInOrder : Type 0
+MadeInOrder =
+    (k r : ℕ) → IsMade k r
+    → let columns = madeOf k r .code .columns in
+    ((p q : ℕ) → p < q → q < k → Before (column columns p) (column columns q))
+    × ((x : ℕ) → x < 2 ^ r → oddOnes x ≡ 1 → 3 ≤ ones x
+    → ((p : ℕ) × (p < k) × (column columns p ≡ x)) ⊎ ((p : ℕ) → p < k → Before (column columns p) x))
+
+-- No accepted code of the same k and r has fewer ones in all its n columns; and for every accepted code one is made.
+abbrev pub MadeLeast : Type 0
+MadeLeast =
+    (code : Code) → Accepted code
+    → IsMade (code .k) (code .r) × (allOnes (matrixOf (madeOf (code .k) (code .r) .code)) ≤ allOnes (matrixOf code))
+
+-- Within the limits, 15 exactly when r is below the check bits wanted for k.
+abbrev pub MakingWanted : Type 0
+MakingWanted = (k r : ℕ) → Limits 64 k r → (madeOf k r .number ≡ 15) ↔ (r < checkBitsOf k .bits)

@@ -1,3 +1,4 @@
 pub mod Definitions
 pub mod Sheets
+pub mod Making
 pub mod Demands

@@ -1,4 +1,5 @@
--- What each exported function answers: the question that its layer defines, asked of the opened code; a sheet has none. Assumes nothing.
+-- What each exported function answers: the question that its layer defines, asked of the opened code; a sheet and the maker have none.
+-- Assumes nothing.
 use mathlib.Core.List.{List}
 use Prim.Native.Nat.{ℕ}
 use lib.Ieee.{Float}
@@ -22,6 +23,8 @@ use Rattle.pass.specs.Pass.{After, afterPass}
 use Rattle.sheet.specs.declared.SheetAnswer.{SheetAnswer}
 use Rattle.sheet.specs.declared.Limit.the-variants.{Ceiling, Band, Open}
 use Rattle.sheet.specs.Sheets.{asked, sheetOf}
+use Rattle.make.specs.declared.Made.{Made}
+use Rattle.make.specs.Made.{makeOf}
 use Rattle.desk.specs.declared.ReadWord.{ReadWord}
 
 -- the version of what a caller links: raised by each landing that changes a struct, a size or a meaning
@@ -78,3 +81,7 @@ bandSheet hours devices words mended low high = sheetOf (asked hours devices wor
 
 abbrev pub openSheet : Float → ℕ → ℕ → ℕ → SheetAnswer
 openSheet hours devices words mended = sheetOf (asked hours devices words mended Open)
+
+-- the code that is made for k and r
+abbrev pub madeOf : ℕ → ℕ → Made
+madeOf k r = makeOf k r

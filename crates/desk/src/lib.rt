@@ -2,11 +2,13 @@
 ghost use mathlib.Core.Path.{_≡_};
 ghost use Rattle.desk.specs.Answers.{version, checkBitsOf, judgementOf, rowsOf, writtenOf, readOf, explainedOf, cardsOf, passedOf};
 ghost use Rattle.desk.specs.Answers.{ceilingSheet, bandSheet, openSheet};
+ghost use Rattle.desk.specs.Answers.{madeOf};
 use balance::RowBalance;
 use cards::CardCheck;
 use code::Code;
 use code::Refusal;
 use explain::Listing;
+use make::Made;
 use pass::PassAnswer;
 use record::DATA;
 use sheet::Limit;
@@ -173,4 +175,12 @@ pub extern "C" fn desk_sheet_open(
     ensures { λ a. ⌜ a ≡ openSheet hours devices words mended ⌝ }
 {
     sheet::sheet_of(hours, devices, words, mended, Limit::Open)
+}
+
+// The maker: the number, and the code, whose places are all 0 where it is refused.
+#[no_mangle]
+pub extern "C" fn desk_make(k: usize, r: usize) -> Made
+    ensures { λ a. ⌜ a ≡ madeOf k r ⌝ }
+{
+    make::make(k, r)
 }

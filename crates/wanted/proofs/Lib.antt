@@ -1,4 +1,2 @@
 pub mod Bands
-pub mod Counting
-pub mod Room
 pub mod Least

@@ -1,13 +1,7 @@
 -- Check bits wanted: document 01's bands of k, up to 64. Assumes nothing.
-use mathlib.Core.Path.{_≡_}
 use mathlib.Core.Bool.{cond, _||_}
-use Prim.Native.Nat.{ℕ, _^_, _<_}
+use Prim.Native.Nat.{ℕ}
 use lib.Dec.{eqb, ltb, leb}
-use lib.ListN.{length}
-use Rattle.columns.specs.Mix.{column}
-use Rattle.code.specs.declared.Code.{Code}
-use Rattle.code.specs.declared.Judged.the-variants.{Accepted}
-use Rattle.code.specs.Judge.{judgeIn}
 use Rattle.wanted.specs.declared.CheckBits.{CheckBits}
 
 -- 1 gives 3; 2 to 4 give 4; 5 to 11 give 5; 12 to 26 give 6; 27 to 57 give 7; 58 and more give 8
@@ -22,12 +16,3 @@ bandOf k =
 -- the question is refused by 1 where k is 0 or over 64, and then hands back no bits
 unfoldable pub wantedOf : ℕ → CheckBits
 wantedOf k = cond (eqb k 0 || ltb 64 k) (record { number = 1; bits = 0 }) (record { number = 0; bits = bandOf k })
-
--- a code of k data bits and r check bits, in 64 places of 16 bits each, that the judge accepts
-pub record Exists (k r : ℕ) : Type 0 where
-  pub code : Code
-  pub bits : code .k ≡ k
-  pub checks : code .r ≡ r
-  pub fits : (p : ℕ) → p < 64 → column (code .columns) p < 2 ^ 16
-  pub places : length (code .columns) ≡ 64
-  pub accepted : judgeIn 64 (code .columns) (code .k) (code .r) ≡ Accepted

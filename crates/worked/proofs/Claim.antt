@@ -1,4 +1,4 @@
--- THE CLAIM: every row of document 01's table is right, by computing. Assumes nothing.
+-- THE CLAIM: every row of the table is right, by computing. Assumes nothing.
 use mathlib.Core.Path.{_≡_, refl}
 use mathlib.Core.Bool.{true}
 use lib.Count.{ones, onesIn}
@@ -13,10 +13,12 @@ use Rattle.listing.specs.Sets.{flipAll, chosen, setsUpTo, those, bytesFor}
 use Rattle.explain.specs.Explanations.{explanations, listedIn, explainIn}
 use Rattle.cards.specs.Cards.{cutInto, weakMask, firstFrom, tryMask, weakMaskIn, weakCardIn}
 use Rattle.cards.specs.Checking.{cardedIn}
+use Rattle.make.specs.Order.{passingFrom, byOnes}
+use Rattle.make.specs.Made.{makeNumber}
 use Rattle.worked.specs.Table.{right, allRight, table}
 
 pub all-hold : allRight table ≡ true
 unfolding allRight table right ones onesIn mix singlesFrom singles placeIn solveFrom solve judgeColumn judgeFrom judgeColumns
     leftoverFrom judgeRest judgeIn sumOf balanceAt balancesFrom flippedIn verdictOn readIn writeIn flipAll chosen setsUpTo those
-    bytesFor explanations listedIn explainIn cutInto weakMask firstFrom tryMask weakMaskIn weakCardIn cardedIn
+    bytesFor explanations listedIn explainIn cutInto weakMask firstFrom tryMask weakMaskIn weakCardIn cardedIn passingFrom byOnes makeNumber
 all-hold = refl

@@ -1,6 +1,6 @@
 -- Document 01, "The sample code, worked": the items marked P, as one table; cards as 02's request 105 has them, those that stay and those
--- that it amends. Each row names a question and the answer that the exported function is to give; `right` asks whether its definition
--- gives it. Assumes nothing.
+-- that it amends; behind them the totals of 02's request 101. Each row names a question and the answer that the exported function is to
+-- give; `right` asks whether its definition gives it. Assumes nothing.
 use mathlib.Core.Bool.{Bool, true, false, _&&_}
 use mathlib.Core.List.{List, [], _∷_, _++_}
 use Prim.Native.Nat.{ℕ, _-_}
@@ -12,7 +12,7 @@ use Rattle.code.specs.declared.Code.{Code}
 use Rattle.code.specs.Rule.{matrixOf}
 use Rattle.code.specs.Sample.{codeOf, sampleCode}
 use Rattle.balance.specs.Balance.{allOnes}
-use Rattle.desk.specs.Answers.{judgementOf, rowsOf, writtenOf, readOf, explainedOf, cardsOf}
+use Rattle.desk.specs.Answers.{judgementOf, rowsOf, writtenOf, readOf, explainedOf, cardsOf, madeOf}
 
 -- columns 7 and 11 with r 4
 abbrev pub two : Code
@@ -39,6 +39,8 @@ pub data Case : Type 0 where
   listed : (code : Code) (low high limit size number told entries : ℕ) (bytes : List ℕ) → Case
   -- number, told place, card and mask
   carded : (code : Code) (b number told card mask : ℕ) → Case
+  -- a code made for k and r: number, and all ones of its matrix
+  made : (k r number ones : ℕ) → Case
 
 abbrev pub sameℤ : ℤ → ℤ → Bool
 sameℤ (pos a) (pos b) = eqb a b
@@ -80,6 +82,7 @@ right (listed code low high limit size number told entries bytes) =
 right (carded code b number told card mask) =
     eqb (cardsOf code b .number) number && eqb (cardsOf code b .told) told
     && eqb (cardsOf code b .card) card && eqb (cardsOf code b .mask) mask
+right (made k r number n) = eqb (madeOf k r .number) number && eqb (allOnes (matrixOf (madeOf k r .code))) n
 
 unfoldable pub allRight : List Case → Bool
 allRight [] = true
@@ -113,4 +116,10 @@ table =
     ∷ carded sampleCode 4 9 0 0 11
     ∷ carded two 3 9 0 1 7
     ∷ carded two 4 9 0 1 7
+    ∷ made 16 6 0 54
+    ∷ made 24 6 0 86
+    ∷ made 32 7 0 103
+    ∷ made 48 7 0 177
+    ∷ made 64 8 0 216
+    ∷ made 58 7 15 0
     ∷ []

@@ -3,11 +3,16 @@
 use crate::program;
 use desk::{ffi, Word};
 use second::{Balanced, CardsChecked, Code, Desk, Explained, Judged, Passed, Reading, Refusal, Wanted, Written};
-use second::{Limit, Sheeted, Station};
+use second::{Limit, Made, Sheeted, Station};
 
 /// The same code for the linked desk.
 fn linked(code: &Code) -> desk::Code {
     desk::Code { columns: code.columns, k: code.k, r: code.r }
+}
+
+/// The same code for the second program.
+fn unlinked(code: desk::Code) -> Code {
+    Code { columns: code.columns, k: code.k, r: code.r }
 }
 
 /// The counts of a tally in the order of verdicts.
@@ -78,6 +83,11 @@ impl Desk for Archive {
             Limit::Open => ffi::sheet_open(hours, devices, words, mended),
         };
         Sheeted { number, told, ..in_bits(yes, sheet) }
+    }
+
+    fn make(&self, k: usize, r: usize) -> Made {
+        let ffi::Made { number, code } = ffi::make(k, r);
+        Made { number, code: unlinked(code) }
     }
 
     fn mend(&self, input: &[u8]) -> String {
@@ -159,6 +169,13 @@ impl Desk for Wrapper {
         let station = desk::Station { hours: f64::from_bits(hours), devices, words, mended };
         let done = |judged: desk::JudgedSheet| in_bits(judged.yes, judged.sheet);
         station.sheet(limit).map_or_else(|refusal| refused(refusal).into(), done)
+    }
+
+    fn make(&self, k: usize, r: usize) -> Made {
+        match desk::Code::made(k, r) {
+            Ok(code) => Made { number: 0, code: unlinked(code) },
+            Err(refusal) => Made { number: refusal.number(), code: Code::of(&[], refusal.told()) },
+        }
     }
 
     fn mend(&self, input: &[u8]) -> String {

@@ -39,6 +39,24 @@ impl Code {
         Ok(code)
     }
 
+    /// The code of `k` data bits and `r` check bits that the desk makes: columns of three ones first, then of five and
+    /// so on, within a count the smaller number first. No code of the same k and r has fewer ones in all.
+    ///
+    /// There is one wherever r is at least [`check_bits_wanted`] for k.
+    ///
+    /// ```
+    /// use desk::{Code, Refusal};
+    ///
+    /// assert_eq!(Code::made(8, 5), Code::new(&[7, 11, 13, 14, 19, 21, 22, 25], 5));
+    /// assert_eq!(Code::made(12, 5), Err(Refusal::ColumnRoom));
+    /// assert_eq!(Code::made(12, 2), Err(Refusal::CheckBits));
+    /// assert_eq!(Code::made(65, 2), Err(Refusal::DataBits));
+    /// ```
+    pub fn made(k: usize, r: usize) -> Result<Code, Refusal> {
+        let answer = ffi::make(k, r);
+        done(answer.number, 0, answer.code)
+    }
+
     /// Is this a code? Every other question asks this first and refuses with the same.
     ///
     /// ```

@@ -15,7 +15,7 @@ use crate::version;
 #[repr(C)]
 #[derive(Clone, Copy, PartialEq, Eq, Hash, Debug)]
 pub struct Code {
-    /// The data columns, then anything.
+    /// The data columns, then 0.
     pub columns: [u16; 64],
     /// How many data bits, 1 to 64.
     pub k: usize,
@@ -167,6 +167,16 @@ pub struct SheetAnswer {
     pub sheet: Sheet,
 }
 
+/// The answer of [`make`].
+#[repr(C)]
+#[derive(Clone, Copy, PartialEq, Eq, Debug)]
+pub struct Made {
+    /// 0, or the number of the refusal, which tells nothing.
+    pub number: usize,
+    /// The code that is made; k, r and every column are 0 where it is refused.
+    pub code: Code,
+}
+
 extern "C" {
     fn desk_version() -> usize;
     fn desk_check_bits(k: usize) -> CheckBits;
@@ -188,6 +198,7 @@ extern "C" {
     fn desk_sheet_ceiling(hours: f64, devices: usize, words: usize, mended: usize, high: f64) -> SheetAnswer;
     fn desk_sheet_band(hours: f64, devices: usize, words: usize, mended: usize, low: f64, high: f64) -> SheetAnswer;
     fn desk_sheet_open(hours: f64, devices: usize, words: usize, mended: usize) -> SheetAnswer;
+    fn desk_make(k: usize, r: usize) -> Made;
 }
 
 /// Asks the archive, once it is known to be of this crate's version.
@@ -213,7 +224,7 @@ pub fn check_bits(k: usize) -> CheckBits {
     ask!(desk_check_bits(k))
 }
 
-/// Whether this is a code; refuses with 1 to 6, as every question below does.
+/// Whether this is a code; refuses with 1 to 6 and 21, as every question about a code does.
 pub fn judge(code: &Code) -> Judgement {
     ask!(desk_judge(*code))
 }
@@ -262,4 +273,9 @@ pub fn sheet_band(hours: f64, devices: usize, words: usize, mended: usize, low: 
 /// The sheet of a station with no limit: yes.
 pub fn sheet_open(hours: f64, devices: usize, words: usize, mended: usize) -> SheetAnswer {
     ask!(desk_sheet_open(hours, devices, words, mended))
+}
+
+/// The code of `k` data bits and `r` check bits with the fewest ones, three ones first; refuses with 1, 2, 15.
+pub fn make(k: usize, r: usize) -> Made {
+    ask!(desk_make(k, r))
 }

@@ -66,3 +66,8 @@ pub const NO_PLACE: u8 = 255;
 #[cfg(doctest)]
 #[doc = include_str!("../../../docs/CALLING.md")]
 struct Calling;
+
+/// The page on choosing a code: its Rust block is run too.
+#[cfg(doctest)]
+#[doc = include_str!("../../../docs/CHOOSING.md")]
+struct Choosing;

@@ -98,6 +98,8 @@ refusals! {
         "journal room (its length / 24, down) below the entries needed", "the journal needs room for {needed} entries";
     14 Run,
         "run's start above its end, or its end above the number of records", "the run does not lie in the image";
+    15 ColumnRoom,
+        "making a code: k is over 2^(r-1) - r", "there are fewer than k columns of r rows";
     19 Sheet,
         "device count 0 or over 65,535, word count 0 or over 65,535, mended above words, hours not finite or not above \
          zero, a limit's figure not finite or below zero, a band upside down",

@@ -3,12 +3,22 @@
 mod common;
 
 use common::*;
-use desk::{Code, Explanation, Limit, Refusal, Sheet, Station, Tally, Verdict, Word};
+use desk::{check_bits_wanted, Code, Explanation, Limit, Refusal, Sheet, Station, Tally, Verdict, Word};
 use desk::{ENTRY, IMAGE, LONGEST_LIST, RECORD};
 
 #[test]
 fn a_new_code_has_its_columns_and_zeros() {
     assert_eq!(Code::new(&[28, 26, 25, 22, 21, 19, 14, 13], 5), Ok(sample()));
+}
+
+#[test]
+fn a_made_code_is_one_that_new_accepts() {
+    for k in 1..=64 {
+        for r in check_bits_wanted(k).unwrap()..=16 {
+            let code = Code::made(k, r).unwrap();
+            assert_eq!(Code::new(&code.columns[..k], r), Ok(code));
+        }
+    }
 }
 
 #[test]

@@ -41,6 +41,7 @@ fn rust_lays_out_every_struct_as_c_does() {
         lines!(PassAnswer { number, told, tally } of Default::default()),
         lines!(Sheet { device, station, share } of Default::default()),
         lines!(SheetAnswer { number, told, yes, sheet } of Default::default()),
+        lines!(Made { number, code } of Made { number: 0, code: Code { columns: [0; 64], k: 0, r: 0 } }),
     ];
     let expected: Vec<&str> = include_str!("../../../c/layout.txt").lines().collect();
     assert_eq!(lines.concat(), expected);

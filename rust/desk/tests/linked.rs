@@ -135,6 +135,28 @@ fn a_refused_image_and_its_journal_are_left_as_they_were() {
     stays(sample(), 210, 22, 480, 14);
 }
 
+#[test]
+fn a_made_code() {
+    let made = |columns: &[u16], r: usize| Made { number: 0, code: code_of(columns, r) };
+    assert_eq!(make(11, 5), made(&[7, 11, 13, 14, 19, 21, 22, 25, 26, 28, 31], 5));
+    assert_eq!(make(1, 16), made(&[7], 16));
+    assert_eq!(judge(&make(64, 16).code), Judgement { number: 0, told: 0 });
+}
+
+#[test]
+fn a_refused_maker_hands_back_zeros() {
+    let refused = |number: usize| Made { number, code: code_of(&[], 0) };
+    for (k, r) in [(0, 5), (65, 5), (65, 2), (usize::MAX, usize::MAX)] {
+        assert_eq!(make(k, r), refused(1));
+    }
+    for (k, r) in [(64, 2), (64, 17), (1, 0), (1, usize::MAX)] {
+        assert_eq!(make(k, r), refused(2));
+    }
+    for (k, r) in [(2, 3), (5, 4), (12, 5), (27, 6), (58, 7), (64, 3)] {
+        assert_eq!(make(k, r), refused(15));
+    }
+}
+
 /// An answer's numbers and the bits of its figures.
 fn plain(answer: SheetAnswer) -> (usize, usize, bool, [u64; 3]) {
     let Sheet { device, station, share } = answer.sheet;

@@ -32,7 +32,9 @@ fn all() -> Vec<Refusal> {
         sample().pass(&mut image[..19], 0..1, none).unwrap_err(),
         sample().pass(&mut image, 0..2, none).unwrap_err(),
         sample().pass(&mut image, 0..3, none).unwrap_err(),
+        Code::made(12, 5).unwrap_err(),
         Station { hours: 6.0, devices: 4, words: 8, mended: 9 }.sheet(Limit::Open).unwrap_err(),
+        Code { k: 7, ..sample() }.judge().unwrap_err(),
     ]
 }
 
@@ -53,15 +55,17 @@ fn every_refusal_has_its_case() {
         Refusal::ImageLength,
         Refusal::JournalRoom { needed: 2 },
         Refusal::Run,
+        Refusal::ColumnRoom,
         Refusal::Sheet,
+        Refusal::Leftover { place: 7 },
     ];
     assert_eq!(all(), expected);
 }
 
 #[test]
 fn every_refusal_has_its_number_and_tells_what_the_table_says() {
-    let told = [0, 0, 3, 3, 3, 3, 0, 0, 0, 5, 0, 0, 2, 0, 0];
-    let numbers = (1..=14).chain([19, 21]);
+    let told = [0, 0, 3, 3, 3, 3, 0, 0, 0, 5, 0, 0, 2, 0, 0, 0, 7];
+    let numbers = (1..=15).chain([19, 21]);
     for ((refusal, number), told) in all().into_iter().zip(numbers).zip(told) {
         assert_eq!((refusal.number(), refusal.told()), (number, told));
         assert!(refusal.to_string().starts_with(&format!("refused {}: ", number)));

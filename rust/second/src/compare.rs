@@ -1,8 +1,9 @@
 //! The comparison: the same cases to every desk, every number and every byte of the answers.
 
-use crate::answers::{Explained, Passed};
-use crate::cases::{edges, Cases, ImageCase, ListCase, HUGE};
+use crate::answers::{Explained, Judged, Passed, Reading, Written};
+use crate::cases::{asked_shapes, edges, Cases, ImageCase, ListCase, HUGE};
 use crate::desk::Desk;
+use crate::make::Made;
 use std::collections::BTreeMap;
 use std::fmt;
 use std::time::{Duration, Instant};
@@ -129,6 +130,7 @@ pub fn compare(desks: &[&dyn Desk], amounts: &Amounts) -> Result<Vec<Line>, Box<
         ask("card check", desks, cards, |d, c| d.card_check(&c.code, c.b), |a| a.number)?,
         ask("pass", desks, images, passed, |a| a.0.number)?,
         ask("sheet", desks, stations, |d, s| d.sheet(s), |a| a.number)?,
+        ask("make", desks, asked_shapes(), made, |a| a.0.number)?,
         ask("mend", desks, inputs, |d, i| d.mend(i), |text| if text == "refused 12\n" { 12 } else { 0 })?,
     ])
 }
@@ -144,4 +146,27 @@ fn explained(desk: &dyn Desk, case: &ListCase) -> (Explained, Vec<u8>) {
 fn passed(desk: &dyn Desk, case: &ImageCase) -> (Passed, Vec<u8>, Vec<u8>) {
     let ImageCase { code, mut image, start, end, mut journal } = case.clone();
     (desk.pass(&code, &mut image, start, end, &mut journal), image, journal)
+}
+
+/// What words of a made code hold: each is cut to its k data bits.
+const WORDS: [u64; 4] = [0, u64::MAX, 0xA5A5_A5A5_A5A5_A5A5, 0x0123_4567_89AB_CDEF];
+
+/// What is made, how its code is judged, and each word written to it and read from it: as written, with one flip and
+/// with two.
+fn made(desk: &dyn Desk, &(k, r): &(usize, usize)) -> (Made, Judged, Vec<(Written, [Reading; 3])>) {
+    let made = desk.make(k, r);
+    let code = made.code;
+    let places = (code.k + code.r).max(1);
+    let flipped = |data: u64, check: u16, flips: &[usize]| {
+        let as_written = u128::from(data) | u128::from(check) << code.k;
+        let word = flips.iter().fold(as_written, |word, flip| word ^ 1 << (flip % places));
+        desk.read(&code, (word & ((1 << code.k) - 1)) as u64, (word >> code.k) as u16)
+    };
+    let words = WORDS.iter().enumerate().map(|(at, word)| {
+        let data = (u128::from(*word) & ((1 << code.k) - 1)) as u64;
+        let written = desk.write(&code, data);
+        let flips = [&[][..], &[at + code.k], &[at, 3 * at + code.r + 1]];
+        (written, flips.map(|places| flipped(data, written.check, places)))
+    });
+    (made, desk.judge(&code), words.collect())
 }

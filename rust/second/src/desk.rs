@@ -2,9 +2,10 @@
 
 use crate::answers::{Balanced, CardsChecked, Explained, Judged, Passed, Reading, Wanted, Written};
 use crate::code::Code;
+use crate::make::Made;
 use crate::sheet::{Sheeted, Station};
 
-/// Every question of document 01, and 02's sheet. No method has a body here: a desk must not fall back on another's answer.
+/// Every question of document 01, and 02's sheet and maker. No method has a body here: a desk must not fall back on another's answer.
 pub trait Desk {
     fn name(&self) -> &'static str;
     fn wanted(&self, k: usize) -> Wanted;
@@ -16,6 +17,7 @@ pub trait Desk {
     fn card_check(&self, code: &Code, b: usize) -> CardsChecked;
     fn pass(&self, code: &Code, image: &mut [u8], start: usize, end: usize, journal: &mut [u8]) -> Passed;
     fn sheet(&self, asked: &Station) -> Sheeted;
+    fn make(&self, k: usize, r: usize) -> Made;
     fn mend(&self, input: &[u8]) -> String;
 }
 
@@ -62,6 +64,10 @@ impl Desk for Second {
 
     fn sheet(&self, asked: &Station) -> Sheeted {
         crate::sheet(asked)
+    }
+
+    fn make(&self, k: usize, r: usize) -> Made {
+        crate::make(k, r)
     }
 
     fn mend(&self, input: &[u8]) -> String {

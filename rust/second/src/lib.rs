@@ -1,11 +1,12 @@
-//! The independent second program: answers every question of document 01, and 02's sheet, from the documents alone.
+//! The independent second program: answers every question of document 01, and 02's sheet and maker, from the documents
+//! alone.
 //!
 //! It goes by brute force over words of switches. A word is clean when writing its data gives its check bits; reading,
 //! explanations and cards flip places and ask that again. No syndrome is formed, and nothing is shared with the desk.
 //!
 //! The questions are [`wanted`], [`judge`], [`row_balance`], [`write`], [`read`], [`explain`], [`card_check`], [`pass`],
-//! [`sheet`] and the program [`mend`]. [`Desk`] gathers them, [`Cases`] makes cases from a seed, [`compare`] asks several desks, and
-//! [`worked`] asks a desk document 01's own cases.
+//! [`sheet`], [`make`] and the program [`mend`]. [`Desk`] gathers them, [`Cases`] makes cases from a seed, [`compare`]
+//! asks several desks, and [`worked`] asks a desk the documents' own cases.
 
 mod answers;
 mod cards;
@@ -14,6 +15,7 @@ mod code;
 mod compare;
 mod desk;
 mod explain;
+mod make;
 mod pass;
 mod program;
 mod random;
@@ -28,6 +30,7 @@ pub use code::{judge, row_balance, wanted, Code};
 pub use compare::{compare, Amounts, Difference, Line};
 pub use desk::{Desk, Second};
 pub use explain::explain;
+pub use make::{make, Made};
 pub use pass::{counted, pass};
 pub use program::{mend, run, sample_code};
 pub use random::Random;

@@ -1,4 +1,4 @@
-//! The worked cases of document 01: one text, tests/worked.txt, that any desk is asked. The text says what its lines mean.
+//! The worked cases of documents 01 and 02: one text, tests/worked.txt, that any desk is asked. The text says what its lines mean.
 
 use crate::code::{ones, switches, Code};
 use crate::desk::Desk;
@@ -85,6 +85,12 @@ impl Worked {
                 let mut answers: Vec<_> = (number(from)..=number(to)).map(|k| desk.wanted(k)).collect();
                 answers.dedup();
                 answers.iter().map(|a| said(&[a.number, a.check_bits])).collect()
+            }
+            ["make", k, r] => {
+                let a = desk.make(number(k), number(r));
+                self.code = a.code;
+                let end = a.code.columns.iter().rposition(|&column| column != 0).map_or(0, |last| last + 1);
+                said(&[a.number, a.code.k, a.code.r]) + &said(&a.code.columns[..end])
             }
             ["judge"] => {
                 let a = desk.judge(code);

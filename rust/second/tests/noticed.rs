@@ -62,6 +62,15 @@ enum Fault {
     HoursOnRefusal,
     MinusZeroIsBelow,
     NarrowCounts,
+    // Made codes.
+    FiveBeforeThree,
+    LargerNumberFirst,
+    ColumnLeftOut,
+    LeftoverIsMade,
+    RoomForOneLess,
+    RoomForOneMore,
+    ChecksBeforeData,
+    RefusedCodeHasItsSize,
     // The program.
     NoLastLineEnd,
     RefusedPrintsTally,
@@ -259,6 +268,27 @@ impl Desk for Sloppy {
         answer
     }
 
+    fn make(&self, k: usize, r: usize) -> Made {
+        let mut made = make(k, r);
+        let columns = &mut made.code.columns;
+        match (self.0, made.number) {
+            (FiveBeforeThree, 0) if k > 10 && r == 5 => columns[..k].rotate_right(1),
+            (LargerNumberFirst, 0) if r > 3 => columns[..k].reverse(),
+            (ColumnLeftOut, 0) if k > 1 && k < 64 && make(k + 1, r).number == 0 => {
+                *columns = make(k + 1, r).code.columns;
+                columns[0..=k].rotate_left(1);
+                columns[k] = 0;
+            }
+            (LeftoverIsMade, 0) if k < 64 && make(k + 1, r).number == 0 => columns[k] = make(k + 1, r).code.columns[k],
+            (RoomForOneLess, 0) if k == (1 << (r - 1)) - r => made = make(64, 3),
+            (RoomForOneMore, 15) if k == (1 << (r - 1)) - r + 1 => made = Made { number: 0, ..make(k - 1, r) },
+            (ChecksBeforeData, 1) if !(3..=16).contains(&r) => made.number = 2,
+            (RefusedCodeHasItsSize, 15) => made.code = Code { k, r, ..made.code },
+            _ => {}
+        }
+        made
+    }
+
     fn mend(&self, input: &[u8]) -> String {
         let text = mend(input);
         match self.0 {
@@ -328,11 +358,18 @@ fn every_fault_of_a_sheet_is_noticed() {
 }
 
 #[test]
+fn every_fault_of_a_made_code_is_noticed() {
+    noticed(&[FiveBeforeThree, LargerNumberFirst, ColumnLeftOut, LeftoverIsMade], "make", NO_CASES);
+    noticed(&[RoomForOneLess, RoomForOneMore, ChecksBeforeData, RefusedCodeHasItsSize], "make", NO_CASES);
+}
+
+#[test]
 fn the_worked_cases_notice_every_easy_way_to_go_wrong_and_every_byte() {
     let ways = [EvenIsMended, OddIsMended, ChecksAreNotCompared, CheckBitsStayUnmended, PairsComeTwice];
     let bytes = [RefusedListIsWritten, ListTailIsCleared, RefusedPassIsNoted, NothingIsMended];
     let amended = [CardsRunStraightOn, DataCardIsJoined, CheckCardsAreLeftOut, CheckCardsFromZero];
-    for fault in ways.into_iter().chain(bytes).chain(amended) {
+    let made = [FiveBeforeThree, LargerNumberFirst, ColumnLeftOut, LeftoverIsMade, RoomForOneLess, RoomForOneMore];
+    for fault in ways.into_iter().chain(bytes).chain(amended).chain(made) {
         assert!(!worked(&Sloppy(fault)).is_empty(), "{:?}", fault);
     }
 }

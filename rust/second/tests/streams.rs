@@ -43,6 +43,7 @@ fn every_number_of_every_question_is_met() {
         ("card check", met(&[0, 1, 2, 3, 4, 5, 6, 8, 9, 21])),
         ("pass", met(&[0, 1, 2, 3, 4, 5, 6, 12, 13, 14, 21])),
         ("sheet", met(&[0, 19])),
+        ("make", met(&[0, 1, 2, 15])),
         ("mend", met(&[0, 12])),
     ];
     let lines = compare(&[&Second, &Second], &SMALL).expect("the second program agrees with itself");

@@ -18,6 +18,11 @@ pub fn shapes(columns: &[Vec<u16>]) -> Vec<(usize, usize)> {
     (3..=16).flat_map(|r| (1..=columns[r].len().min(64)).map(move |k| (k, r))).collect()
 }
 
+/// Every k and r that a code is asked to be made for: all within the limits, and many out of them.
+pub fn asked_shapes() -> impl Iterator<Item = (usize, usize)> {
+    (0..=70).chain(HUGE).flat_map(|k| (0..=20).chain(HUGE).map(move |r| (k, r)))
+}
+
 impl Cases {
     /// A code, sound or damaged.
     pub fn code(&mut self) -> Code {

@@ -12,6 +12,7 @@ use crate::random::Random;
 use crate::word::Accepted;
 use std::rc::Rc;
 
+pub use codes::asked_shapes;
 pub use images::ImageCase;
 pub use stations::edges;
 pub use words::{CardCase, ListCase, WordCase};

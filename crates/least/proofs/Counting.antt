@@ -1,8 +1,8 @@
 -- Pigeonhole, the numbers that pass a test, and how many of them there are. Assumes nothing.
 use mathlib.Core.Path.{_≡_, refl, sym, ap, _∙_}
 use mathlib.Core.Logic.{_≢_, ⊎-elim}
-use mathlib.Core.Bool.{Bool, true, false, cond, _&&_, false≢true}
-use mathlib.Core.List.{List, [], _∷_, _++_}
+use mathlib.Core.Bool.{Bool, true, false, cond}
+use mathlib.Core.List.{List, _∷_, _++_}
 use Prim.Native.Nat.{ℕ, zero, suc, _+_, _-_, _*_, _/_, _^_, _≤_, _<_, zero-le, suc-le-suc}
 use native.Mathlib.Nat.{le-refl, le-of-suc-le-suc, not-suc-le-zero}
 use native.Mathlib.Omega.{arith}
@@ -16,6 +16,7 @@ use Rattle.columns.specs.Mix.{column, singles, placeIn}
 use Rattle.columns.proofs.Places.{place-hit, place-first}
 use Rattle.columns.proofs.Pigeonhole.{apart-below}
 use Rattle.columns.proofs.Singles.{length-singles, single-at}
+use Rattle.make.specs.Order.{passingFrom, passing}
 
 -- ---- pigeonhole
 
@@ -40,7 +41,7 @@ apart-of l differ p q h k e =
     let high : ¬ (q < p) = λ o. differ q p o h (sym e) in
     omega arith
 
-pub stands-at : (l : List ℕ) (x p : ℕ) → p < length l → column l p ≡ x → Stands l x
+stands-at : (l : List ℕ) (x p : ℕ) → p < length l → column l p ≡ x → Stands l x
 stands-at l x p h e = omega (arith, place-first l x p h e)
 
 -- what stands in a part stands in the whole
@@ -53,15 +54,6 @@ stands-right l m x h =
     stands-at (l ++ m) x (length l + placeIn m x) (rw length-append (omega arith)) (getD-append-add l m (placeIn m x) 0 ∙ place-hit m x h)
 
 -- ---- the numbers that pass a test
-
--- of the n numbers from a on, those that pass f, the smaller first
-unfoldable pub passingFrom : (ℕ → Bool) → ℕ → ℕ → List ℕ
-passingFrom f zero a = []
-passingFrom f (suc n) a = cond (f a) (a ∷ passingFrom f n (suc a)) (passingFrom f n (suc a))
-
--- of the numbers below n
-abbrev pub passing : (ℕ → Bool) → ℕ → List ℕ
-passing f n = passingFrom f n 0
 
 module _ (f : ℕ → Bool) where
   -- one number more
@@ -171,7 +163,7 @@ odd-from (suc n) a =
     )
 
 -- of the numbers below 2 n, just n have an odd number of ones; so 2 ^ (r - 1) of those below 2 ^ r
-pub odd-count : (n : ℕ) → length (passing isOdd (2 * n)) ≡ n
+odd-count : (n : ℕ) → length (passing isOdd (2 * n)) ≡ n
 odd-count n = odd-from n 0
 
 pub odd-half : (r : ℕ) → 1 ≤ r → length (passing isOdd (2 ^ r)) ≡ 2 ^ (r - 1)
@@ -186,23 +178,3 @@ pub single-stands : (r x : ℕ) → x < 2 ^ r → ones x ≡ 1 → Stands (singl
 single-stands r x h e =
     let s = single r x h e in
     stands-at (singles r) x (s .0) (rw (length-singles r) (s .1)) (single-at r (s .0) (s .1) ∙ sym (s .2))
-
-abbrev pub isSingle : ℕ → Bool
-isSingle x = eqb (ones x) 1
-
--- ---- a test of every number below n, to be computed
-
-unfoldable pub allBelow : (ℕ → Bool) → ℕ → Bool
-allBelow f zero = true
-allBelow f (suc n) = f n && allBelow f n
-
-pub both : (a b : Bool) → (a && b) ≡ true → (a ≡ true) × (b ≡ true)
-both true b h = (refl, h)
-both false b h = absurd (false≢true h)
-
-pub all-at : (f : ℕ → Bool) (n : ℕ) → allBelow f n ≡ true → (x : ℕ) → x < n → f x ≡ true
-unfolding allBelow
-all-at f zero h x l = absurd (not-suc-le-zero l)
-all-at f (suc n) h x l =
-    let t = both (f n) (allBelow f n) h in
-    ⊎-elim (λ (o : x < n). all-at f n (t .1) x o) (λ (o : n ≤ x). let e : n ≡ x = omega arith in rw e at (t .0)) (below-or-not x n)

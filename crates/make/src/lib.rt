@@ -1,0 +1,109 @@
+// The maker: a code from k and r alone, whose columns have as few ones as can be.
+ghost use mathlib.Core.Path.{_≡_};
+ghost use Prim.Native.Nat.{_+_, _≤_, min};
+ghost use lib.ListN.{length, replicate};
+ghost use Rattle.make.specs.Order.{withOnes, inOrder};
+ghost use Rattle.make.specs.Made.{putFrom, makeNumber, placesBy, makeOf};
+use code::Code;
+
+// The numbers below 2^r with c ones, the smaller first, into the places from `at` on until they are full; where the next one goes.
+fn put_ones(places: &mut [u16], at: usize, r: usize, c: u32) -> usize
+    requires { ⌜ (at ≤ length (now places)) × (r ≤ 16) ⌝ }
+    ensures { λ i. ⌜ i ≡ min (length (now (places .entry))) (at + length (withOnes r c)) ⌝ }
+    ensures { λ _. ⌜ now (places .exit) ≡ putFrom (now (places .entry)) at (withOnes r c) ⌝ }
+{
+    let limit: u32 = 1u32 << r;
+    let mut i = at;
+    let mut x: u32 = 0;
+    while x < limit {
+        if i >= places.len() {
+            return i;
+        }
+        let column = x as u16;
+        x += 1;
+        if parity::weight(column) == c {
+            places[i] = column;
+            i += 1;
+        }
+    }
+    i
+}
+
+// Three ones first, then five and so on, until the places are full.
+fn put_columns(places: &mut [u16], r: usize)
+    requires { ⌜ r ≤ 16 ⌝ }
+    ensures { λ _. ⌜ now (places .exit) ≡ putFrom (now (places .entry)) 0 (inOrder r) ⌝ }
+{
+    let mut i = 0;
+    let mut c: usize = 3;
+    while c <= r {
+        if i >= places.len() {
+            return;
+        }
+        i = put_ones(places, i, r, c as u32);
+        c += 2;
+    }
+}
+
+// 1, 2, then 15 where there are fewer than k columns.
+fn make_number(most: usize, k: usize, r: usize) -> usize
+    ensures { λ n. ⌜ n ≡ makeNumber most k r ⌝ }
+{
+    if k == 0 {
+        return 1;
+    }
+    if k > most {
+        return 1;
+    }
+    if r < 3 {
+        return 2;
+    }
+    if r > 16 {
+        return 2;
+    }
+    let less = r - 1;
+    let half: usize = 1usize << less;
+    if k > half - r {
+        return 15;
+    }
+    0
+}
+
+// In any number of empty places: the refusal's number, and nothing is written; or 0, and the first k places are filled.
+fn make_in(places: &mut [u16], k: usize, r: usize) -> usize
+    requires { ⌜ now places ≡ replicate (length (now places)) 0 ⌝ }
+    ensures { λ n. ⌜ n ≡ makeNumber (length (now (places .entry))) k r ⌝ }
+    ensures { λ n. ⌜ now (places .exit) ≡ placesBy n (length (now (places .entry))) k r ⌝ }
+{
+    let number = make_number(places.len(), k, r);
+    if number != 0 {
+        return number;
+    }
+    put_columns(&mut places[..k], r);
+    0
+}
+
+// What the maker answers: 0 and the code, or the refusal's number and a code of nothing but zeros.
+#[repr(C)]
+pub struct Made {
+    pub number: usize,
+    pub code: Code,
+}
+
+// A code of 64 places.
+pub fn make(k: usize, r: usize) -> Made
+    ensures { λ a. ⌜ a ≡ makeOf k r ⌝ }
+{
+    let mut columns = [0u16; 64];
+    let number = make_in(&mut columns, k, r);
+    if number != 0 {
+        let none = Code {
+            columns,
+            k: 0,
+            r: 0,
+        };
+        return Made { number, code: none };
+    }
+    let code = Code { columns, k, r };
+    Made { number, code }
+}
