@@ -59,6 +59,7 @@ int main(void) {
     STRUCT(PassAnswer);
     FIELD(PassAnswer, number);
     FIELD(PassAnswer, told);
+    FIELD(PassAnswer, used);
     FIELD(PassAnswer, tally);
     STRUCT(Sheet);
     FIELD(Sheet, device);

@@ -113,26 +113,49 @@ static void longest_list(void) {
 
 static void longest_image(void) {
     static uint8_t image[DESK_IMAGE + DESK_RECORD];
-    DeskPassAnswer a = desk_pass(sample(), image, DESK_IMAGE, 0, DESK_IMAGE / DESK_RECORD, NULL, 0);
+    DeskPassAnswer a = desk_pass(sample(), image, DESK_IMAGE, 0, DESK_IMAGE / DESK_RECORD, NULL, 0, 0, 0);
     expect("desk_pass: the longest image", a.number == DESK_DONE && same_tally(a.tally, 6553, 0, 0, 0, 0, 0));
-    a = desk_pass(sample(), image, DESK_IMAGE + DESK_RECORD, 0, 1, NULL, 0);
+    a = desk_pass(sample(), image, DESK_IMAGE + DESK_RECORD, 0, 1, NULL, 0, 0, 0);
     expect("desk_pass: a record more is refused", a.number == DESK_IMAGE_LENGTH);
 }
 
 static void pass_fields(void) {
     uint8_t image[21 * DESK_RECORD], journal[20 * DESK_ENTRY + 7];
     put_every_verdict(image);
-    DeskPassAnswer a = desk_pass(sample(), image, sizeof image, 0, 21, NULL, 0);
-    expect("desk_pass: refused", a.number == 13 && a.told == 20 && same_tally(a.tally, 0, 0, 0, 0, 0, 0));
+    DeskPassAnswer a = desk_pass(sample(), image, sizeof image, 0, 21, NULL, 0, 0, 0);
+    expect("desk_pass: refused",
+           a.number == 13 && a.told == 20 && a.used == 0 && same_tally(a.tally, 0, 0, 0, 0, 0, 0));
     memset(journal, 0xEE, sizeof journal);
-    a = desk_pass(sample(), image, sizeof image, 0, 21, journal, sizeof journal);
-    expect("desk_pass: every field", a.number == 0 && a.told == 0 && same_tally(a.tally, 1, 2, 3, 4, 5, 6));
+    a = desk_pass(sample(), image, sizeof image, 0, 21, journal, sizeof journal, 0, 0x04030201);
+    expect("desk_pass: every field",
+           a.number == 0 && a.told == 0 && a.used == 20 && same_tally(a.tally, 1, 2, 3, 4, 5, 6));
     expect("desk_pass: the journal past its entries stays", is_filled(journal + 20 * DESK_ENTRY, 7, 0xEE));
-    const uint8_t *last = journal + 19 * DESK_ENTRY;
-    expect("desk_pass: the last entry",
-           last[0] == 20 && last[1] == 0 && last[2] == DESK_STRAY && last[3] == DESK_NO_PLACE);
-    a = desk_pass(sample(), image, sizeof image, 0, 21, journal, sizeof journal);
-    expect("desk_pass: what was mended is clean", a.number == 0 && same_tally(a.tally, 6, 0, 0, 4, 5, 6));
+    static const uint8_t head[] = {1, 2, 3, 4, 20, 0, DESK_STRAY, DESK_NO_PLACE};
+    expect("desk_pass: the last entry", memcmp(journal + 19 * DESK_ENTRY, head, sizeof head) == 0);
+    a = desk_pass(sample(), image, sizeof image, 0, 21, journal, sizeof journal, 0, 0);
+    expect("desk_pass: what was mended is clean",
+           a.number == 0 && a.used == 15 && same_tally(a.tally, 6, 0, 0, 4, 5, 6));
+}
+
+/* Two passes in one journal, by the count that the first hands back; guards stand about image and journal. */
+static void passes_in_one_journal(void) {
+    enum { GUARD = 64, IMAGE = 21 * DESK_RECORD, JOURNAL = 21 * DESK_ENTRY + 5 };
+    uint8_t lent[GUARD + IMAGE + GUARD + JOURNAL + GUARD], before[JOURNAL];
+    uint8_t *image = lent + GUARD, *journal = image + IMAGE + GUARD;
+    memset(lent, 0xEE, sizeof lent);
+    put_every_verdict(image);
+    DeskPassAnswer a = desk_pass(sample(), image, IMAGE, 0, 10, journal, JOURNAL, 0, 7);
+    expect("desk_pass: the first of two", a.number == 0 && a.used == 9 && same_tally(a.tally, 1, 2, 3, 4, 0, 0));
+    memcpy(before, journal, JOURNAL);
+    DeskPassAnswer b = desk_pass(sample(), image, IMAGE, 10, 21, journal, JOURNAL, a.used, UINT32_MAX);
+    expect("desk_pass: the second of two", b.number == 0 && b.used == 20 && same_tally(b.tally, 0, 0, 0, 0, 5, 6));
+    expect("desk_pass: the entries in use stay", memcmp(journal, before, 9 * DESK_ENTRY) == 0);
+    static const uint8_t head[] = {255, 255, 255, 255, 10, 0, DESK_ODD, DESK_NO_PLACE};
+    expect("desk_pass: the next stand right behind them", memcmp(journal + 9 * DESK_ENTRY, head, sizeof head) == 0);
+    expect("desk_pass: bytes past them stay", is_filled(journal + 20 * DESK_ENTRY, DESK_ENTRY + 5, 0xEE));
+    expect("desk_pass: the guards stay",
+           is_filled(lent, GUARD, 0xEE) && is_filled(image + IMAGE, GUARD, 0xEE) &&
+               is_filled(journal + JOURNAL, GUARD, 0xEE));
 }
 
 /* Whether a list is refused by this number with the buffer as it was. */
@@ -143,15 +166,23 @@ static int list_stays(DeskCode code, uint64_t data, size_t limit, size_t room, s
     return a.number == number && a.length == 0 && is_filled(list, sizeof list, 0xEE);
 }
 
-/* Whether a pass is refused by this number with image and journal as they were. */
-static int image_stays(DeskCode code, size_t length, size_t start, size_t end, size_t room, size_t number) {
-    uint8_t image[21 * DESK_RECORD], before[21 * DESK_RECORD], journal[20 * DESK_ENTRY];
+/*
+ * Whether a pass with so many entries in use, each with the stamp EEEEEEEE, is refused by this number with image and
+ * journal as they were.
+ */
+static int stays(DeskCode code, size_t length, size_t end, size_t room, size_t used, uint32_t stamp, size_t number) {
+    uint8_t image[21 * DESK_RECORD], before[21 * DESK_RECORD], journal[21 * DESK_ENTRY];
     put_every_verdict(image);
     put_every_verdict(before);
     memset(journal, 0xEE, sizeof journal);
-    DeskPassAnswer a = desk_pass(code, image, length, start, end, journal, room);
-    return a.number == number && same_tally(a.tally, 0, 0, 0, 0, 0, 0) && memcmp(image, before, sizeof image) == 0 &&
-           is_filled(journal, sizeof journal, 0xEE);
+    DeskPassAnswer a = desk_pass(code, image, length, 0, end, journal, room, used, stamp);
+    return a.number == number && a.used == 0 && same_tally(a.tally, 0, 0, 0, 0, 0, 0) &&
+           memcmp(image, before, sizeof image) == 0 && is_filled(journal, sizeof journal, 0xEE);
+}
+
+/* The same with an ample journal of which no entry is in use. */
+static int image_stays(DeskCode code, size_t length, size_t end, size_t number) {
+    return stays(code, length, end, 20 * DESK_ENTRY, 0, 0, number);
 }
 
 /* The sample with k, r and the last column set; each of 1 to 6 is refused by its number. */
@@ -174,14 +205,21 @@ static void refusals_leave_buffers(void) {
         snprintf(name, sizeof name, "refused by %zu: the list stays", number);
         expect(name, list_stays(refused_by(number), 0xA6, 2, 80, number));
         snprintf(name, sizeof name, "refused by %zu: image and journal stay", number);
-        expect(name, image_stays(refused_by(number), 210, 0, 21, 480, number));
+        expect(name, image_stays(refused_by(number), 210, 21, number));
     }
     expect("refused by 7: the list stays", list_stays(sample(), 0x100, 2, 80, DESK_STRAY_BITS));
     expect("refused by 10: the list stays", list_stays(sample(), 0xA6, 2, 9, DESK_LIST_ROOM));
     expect("refused by 11: the list stays", list_stays(sample(), 0xA6, 3, 80, DESK_FLIP_LIMIT));
-    expect("refused by 12: image and journal stay", image_stays(sample(), 209, 0, 20, 480, DESK_IMAGE_LENGTH));
-    expect("refused by 13: image and journal stay", image_stays(sample(), 210, 0, 21, 479, DESK_JOURNAL_ROOM));
-    expect("refused by 14: image and journal stay", image_stays(sample(), 210, 0, 22, 480, DESK_RUN));
+    expect("refused by 12: image and journal stay", image_stays(sample(), 209, 20, DESK_IMAGE_LENGTH));
+    expect("refused by 14: image and journal stay", image_stays(sample(), 210, 22, DESK_RUN));
+    expect("refused by 13: image and journal stay", stays(sample(), 210, 21, 559, 0, 0, DESK_JOURNAL_ROOM));
+    expect("refused by 13: a used entry is no room", stays(sample(), 210, 21, 587, 1, 0xEEEEEEEE, DESK_JOURNAL_ROOM));
+    expect("refused by 16: image and journal stay", stays(sample(), 210, 21, 588, 1, 0xEEEEEEED, DESK_STAMP));
+    expect("refused by 16: where no entry is written, too", stays(sample(), 210, 0, 588, 21, 0, DESK_STAMP));
+    expect("refused by 17: image and journal stay", stays(sample(), 210, 21, 588, 22, UINT32_MAX, DESK_COUNT_IN_USE));
+    expect("refused by 17: a count that no journal has",
+           stays(sample(), 210, 0, 588, SIZE_MAX, UINT32_MAX, DESK_COUNT_IN_USE) &&
+               stays(sample(), 210, 0, 588, (size_t)1 << 32, UINT32_MAX, DESK_COUNT_IN_USE));
 }
 
 /* Whether a sheet is this one, bit by bit: the sign of a zero counts. */
@@ -273,6 +311,7 @@ int main(void) {
     list_and_card_fields();
     longest_list();
     pass_fields();
+    passes_in_one_journal();
     longest_image();
     refusals_leave_buffers();
     sheet_fields();

@@ -4,7 +4,7 @@
 #include <inttypes.h>
 #include <stdio.h>
 
-enum { LINE = 512, FILL = 0xEE };
+enum { LINE = 1024, FILL = 0xEE };
 
 /* What the questions are about, and the buffers that the desk writes to. */
 static DeskCode code;
@@ -45,6 +45,15 @@ static void set_words(const char *at) {
     }
 }
 
+/* The journal's first bytes; the rest is filled. */
+static void set_journal(const char *at) {
+    int more;
+    memset(journal, FILL, sizeof journal);
+    for (size_t i = 0; i < sizeof journal && sscanf(at, "%" SCNx8 "%n", &journal[i], &more) == 1; i++) {
+        at += more;
+    }
+}
+
 /* A line that says what the next questions are about. */
 static void set(const char *line) {
     int after = 0;
@@ -56,6 +65,8 @@ static void set(const char *line) {
         image_length = length;
     } else if (strncmp(line, "image ", 6) == 0) {
         set_words(line + 6);
+    } else if (strncmp(line, "journal", 7) == 0) {
+        set_journal(line + 7);
     }
 }
 
@@ -108,17 +119,18 @@ static void ask_explain(uint64_t data, uint16_t check, size_t limit, size_t room
     print_bytes(" %d", list, changed(list, sizeof list));
 }
 
-static void ask_pass(size_t start, size_t end, size_t room) {
-    memset(journal, FILL, sizeof journal);
-    DeskPassAnswer a = desk_pass(code, image, image_length, start, end, journal, room);
+static void ask_pass(size_t start, size_t end, size_t room, size_t used, uint32_t stamp) {
+    DeskPassAnswer a = desk_pass(code, image, image_length, start, end, journal, room, used, stamp);
     DeskTally t = a.tally;
-    printf(" %zu %zu %d %d %d %d %d %d", a.number, a.told, t.clean, t.data, t.check, t.even, t.odd, t.stray);
+    printf(" %zu %zu %zu", a.number, a.told, a.used);
+    printf(" %d %d %d %d %d %d", t.clean, t.data, t.check, t.even, t.odd, t.stray);
 }
 
 /* Prints what is answered to the question before a line's `=`. */
 static void ask(const char *line) {
-    size_t a, b, c;
+    size_t a, b, c, used;
     uint64_t data;
+    uint32_t stamp;
     uint16_t check;
     if (sscanf(line, "wanted %zu %zu", &a, &b) == 2) {
         ask_wanted(a, b);
@@ -146,8 +158,8 @@ static void ask(const char *line) {
     } else if (sscanf(line, "cards %zu", &a) == 1) {
         DeskCardCheck answer = desk_cards(code, a);
         printf(" %zu %zu %zu %zu", answer.number, answer.told, answer.card, answer.mask);
-    } else if (sscanf(line, "pass %zu %zu %zu", &a, &b, &c) == 3 && c <= sizeof journal) {
-        ask_pass(a, b, c);
+    } else if (sscanf(line, "pass %zu %zu %zu %zu %" SCNu32, &a, &b, &c, &used, &stamp) == 5 && c <= sizeof journal) {
+        ask_pass(a, b, c, used, stamp);
     } else if (strcmp(line, "left ") == 0) {
         print_bytes(" %02X", image, image_length);
     } else if (strcmp(line, "noted ") == 0) {

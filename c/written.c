@@ -20,7 +20,7 @@ void desk_read(void *answer, Code code, uint64_t data, uint16_t check);
 void desk_explain(void *answer, Code code, uint64_t data, uint16_t check, size_t limit, uint8_t *list, size_t length);
 void desk_cards(void *answer, Code code, size_t b);
 void desk_pass(void *answer, Code code, uint8_t *image, size_t image_length, size_t start, size_t end, uint8_t *journal,
-               size_t journal_length);
+               size_t journal_length, size_t used, uint32_t stamp);
 void desk_sheet_ceiling(void *answer, double hours, size_t devices, size_t words, size_t mended, double high);
 void desk_sheet_band(void *answer, double hours, size_t devices, size_t words, size_t mended, double low, double high);
 void desk_sheet_open(void *answer, double hours, size_t devices, size_t words, size_t mended);
@@ -40,8 +40,8 @@ static void explain_to(void *answer) {
 
 static void pass_to(void *answer) {
     uint8_t image[20] = {0xA4, 0, 0, 0, 0, 0, 0, 0, 27, 0, 0xA6, 0, 0, 0, 0, 0, 0, 0, 27, 0};
-    uint8_t journal[48];
-    desk_pass(answer, sample, image, sizeof image, 0, 2, journal, sizeof journal);
+    uint8_t journal[3 * 28] = {0};
+    desk_pass(answer, sample, image, sizeof image, 0, 2, journal, sizeof journal, 1, 0x04030201);
 }
 
 static void ceiling_to(void *answer) { desk_sheet_ceiling(answer, 667, 8192, 4, 1, 0.5); }
@@ -82,7 +82,7 @@ int main(void) {
     expect("desk_read writes 42 bytes of its 48, and no other", writes_only(read_to, 0, 42, 48));
     expect("desk_explain writes all 24 bytes of its answer, and no other", writes_only(explain_to, 0, 24, 24));
     expect("desk_cards writes all 32 bytes of its answer, and no other", writes_only(cards_to, 0, 32, 32));
-    expect("desk_pass writes 28 bytes of its 32, and no other", writes_only(pass_to, 0, 28, 32));
+    expect("desk_pass writes 36 bytes of its 40, and no other", writes_only(pass_to, 0, 36, 40));
     expect("desk_sheet_ceiling writes its fields, and no other", writes_sheet(ceiling_to));
     expect("desk_sheet_band writes its fields, and no other", writes_sheet(band_to));
     expect("desk_sheet_open writes its fields where it refuses too, and no other", writes_sheet(open_to));

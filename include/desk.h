@@ -13,7 +13,10 @@
  * What is counted. `list_length`, `image_length` and `journal_length` are bytes. Nothing else is:
  *   start, end  records, from the image's first; the record at `end` is not in the run
  *   length      entries of the list, two bytes each
- *   told        with 3 to 6 and 21 a place, with 10 entries of the list, with 13 entries of the journal, DESK_ENTRY bytes each
+ *   used        entries of the journal, DESK_ENTRY bytes each: those in use before a pass, and in its answer those after it
+ *   told        with 3 to 6 and 21 a place, with 10 entries of the list, with 13 entries of the journal
+ *
+ * Time. A pass's stamp is any number that does not fall along a journal; what it counts is the caller's affair.
  *
  * Figures. `hours`, and `device` and `station` of a sheet, are hours. `share`, `low` and `high` are parts of 1.
  *
@@ -45,7 +48,7 @@ extern "C" {
  *     if (desk_version() != DESK_VERSION)
  *         abort();
  */
-#define DESK_VERSION 3
+#define DESK_VERSION 4
 
 /* The field `number` of an answer: exactly when, and what is told. It is the table of docs/refusals.txt. */
 enum DeskNumber {
@@ -63,16 +66,19 @@ enum DeskNumber {
     DESK_LIST_ROOM = 10,      /* list longer than its room; told: list's length */
     DESK_FLIP_LIMIT = 11,     /* flip limit over 2 */
     DESK_IMAGE_LENGTH = 12,   /* image length no multiple of 10, or over 65,530 */
-    DESK_JOURNAL_ROOM = 13,   /* journal room (its length / 24, down) below the entries needed; told: entries needed */
+    DESK_JOURNAL_ROOM = 13,   /* journal room left (its length / 28, down, less the entries in use) below the entries
+                                 needed; told: entries needed */
     DESK_RUN = 14,            /* run's start above its end, or its end above the number of records */
     DESK_COLUMN_ROOM = 15,    /* making a code: k is over 2^(r-1) - r */
+    DESK_STAMP = 16,          /* the pass's stamp is below the last used entry's */
+    DESK_COUNT_IN_USE = 17,   /* the count of entries in use is over the journal's room */
     DESK_SHEET = 19,          /* device count 0 or over 65,535, word count 0 or over 65,535, mended above words, hours
                                  not finite or not above zero, a limit's figure not finite or below zero, a band upside
                                  down */
     DESK_LEFTOVER = 21,       /* a place past k is not 0; told: first such place */
 };
 
-/* The field `verdict` of a reading, the third byte of a journal entry, and the order of a tally. */
+/* The field `verdict` of a reading, the seventh byte of a journal entry, and the order of a tally. */
 enum DeskVerdict {
     DESK_CLEAN = 0, /* nothing is wrong */
     DESK_DATA = 1,  /* one data bit was flipped, and is mended */
@@ -87,7 +93,8 @@ enum DeskVerdict {
 #define DESK_ROWS 16          /* rows of a balance */
 #define DESK_LONGEST_LIST 80  /* bytes that hold any list of explanations */
 #define DESK_RECORD 10        /* bytes of a record: data in 8, check bits in 2, low byte first */
-#define DESK_ENTRY 24         /* bytes of a journal entry: record number in 2, verdict, place, 10 as read, 10 as left */
+#define DESK_ENTRY 28         /* bytes of a journal entry: stamp in 4 and record number in 2, low byte first, verdict,
+                                 place, 10 as read, 10 as left */
 #define DESK_IMAGE 65530      /* bytes of the longest image */
 
 /* A code: k data columns, each with row j as its bit j, and r check bits. Places past k hold 0. */
@@ -161,10 +168,11 @@ typedef struct DeskTally {
     uint16_t stray;
 } DeskTally;
 
-/* The answer of desk_pass. */
+/* The answer of desk_pass: the entries in use after it, for the next pass, and the tally. */
 typedef struct DeskPassAnswer {
     size_t number;
     size_t told;
+    size_t used;
     DeskTally tally;
 } DeskPassAnswer;
 
@@ -217,9 +225,14 @@ DeskListing desk_explain(DeskCode code, uint64_t data, uint16_t check, size_t li
  */
 DeskCardCheck desk_cards(DeskCode code, size_t b);
 
-/* Mends the records from `start` up to but not `end` and notes each that is not clean; refuses with 12, 14, 13. */
+/*
+ * Mends the records from `start` up to but not `end` and notes each that is not clean, with the pass's stamp, behind the
+ * `used` entries that the journal has in use, which stay; refuses with 12, 14, 17, 16, 13. The next pass in the same
+ * journal is told the count that a done pass hands back; a refused pass leaves it as it was, and hands back 0. Of the
+ * entries in use only the last one's stamp is read. In a new journal none is in use, whatever its bytes are.
+ */
 DeskPassAnswer desk_pass(DeskCode code, uint8_t *image, size_t image_length, size_t start, size_t end, uint8_t *journal,
-                         size_t journal_length);
+                         size_t journal_length, size_t used, uint32_t stamp);
 
 /*
  * The sheet of a station from its hours per device and the counts of its devices, of its words and of those mended. It

@@ -5,7 +5,7 @@ use mathlib.Core.List.{List}
 use Prim.Native.Nat.{ℕ, _+_}
 use native.Mathlib.Omega.{arith}
 use lib.ListN.{length}
-use Rattle.record.specs.Layout.{recordSize, headSize, entrySize}
+use Rattle.record.specs.Layout.{recordSize, headSize, entrySize, entryBytes}
 use Rattle.runs.proofs.Records.{length-record}
 use Rattle.runs.proofs.Entries.{length-entry}
 use Rattle.word.specs.declared.Verdict.{Verdict}
@@ -43,10 +43,11 @@ module _ (f : Reader) where
   unfolding leftOf
   length-leftOf rec = left-size (f .d) (f .k) (seen f rec) rec
 
-  pub length-entryOf : (n : ℕ) (rec : List ℕ) → length rec ≡ recordSize (f .d) → length (entryOf f n rec) ≡ entrySize (f .d)
+  pub length-entryOf : (stamp n : ℕ) (rec : List ℕ) → length rec ≡ recordSize (f .d)
+      → length (entryBytes (entryOf f stamp n rec)) ≡ entrySize (f .d)
   unfolding entryOf leftOf
-  length-entryOf n rec e =
-      length-entry (entryBy (f .d) (f .k) n (seen f rec) rec) ∙ ap₂ (λ x y. headSize + (x + y)) e (length-leftOf rec e)
+  length-entryOf stamp n rec e =
+      length-entry (entryBy (f .d) (f .k) stamp n (seen f rec) rec) ∙ ap₂ (λ x y. headSize + (x + y)) e (length-leftOf rec e)
 
   -- only verdicts 1 and 2 are mended
   pub kept : (rec : List ℕ) → verdictOf f rec ≢ 1 → verdictOf f rec ≢ 2 → leftOf f rec ≡ rec

@@ -3,7 +3,7 @@ use mathlib.Core.List.{List}
 use Prim.Native.Nat.{ℕ, _+_, _-_, _*_, _≤_}
 use lib.ListN.{length, take, drop}
 use Rattle.record.specs.Bytes.{numberOf}
-use Rattle.record.specs.Layout.{recordBytes, checkIn, Entry, entryBytes}
+use Rattle.record.specs.Layout.{recordBytes, checkIn, Entry}
 use Rattle.word.specs.declared.Word.{Word}
 use Rattle.word.specs.declared.Verdict.{Verdict}
 use Rattle.word.specs.declared.Verdict.the-variants.{Clean, Data, Check, Even, Odd, Stray}
@@ -55,10 +55,17 @@ leftBy d k Even rec = rec
 leftBy d k Odd rec = rec
 leftBy d k Stray rec = rec
 
--- the entry of the record with the number n
-abbrev pub entryBy : ℕ → ℕ → ℕ → Verdict → List ℕ → Entry
-entryBy d k n v rec =
-    record { number = n; verdict = findingOf v .verdict; place = findingOf v .place; before = rec; after = leftBy d k v rec }
+-- the entry of the record with the number n, by a pass with this stamp
+abbrev pub entryBy : ℕ → ℕ → ℕ → ℕ → Verdict → List ℕ → Entry
+entryBy d k stamp n v rec =
+    record {
+      stamp = stamp;
+      number = n;
+      verdict = findingOf v .verdict;
+      place = findingOf v .place;
+      before = rec;
+      after = leftBy d k v rec;
+    }
 
 -- ---- of a record
 
@@ -68,5 +75,5 @@ verdictOf f rec = findingOf (seen f rec) .verdict
 unfoldable pub leftOf : Reader → List ℕ → List ℕ
 leftOf f rec = leftBy (f .d) (f .k) (seen f rec) rec
 
-unfoldable pub entryOf : Reader → ℕ → List ℕ → List ℕ
-entryOf f n rec = entryBytes (entryBy (f .d) (f .k) n (seen f rec) rec)
+unfoldable pub entryOf : Reader → ℕ → ℕ → List ℕ → Entry
+entryOf f stamp n rec = entryBy (f .d) (f .k) stamp n (seen f rec) rec

@@ -45,19 +45,28 @@ fn mend(rec: &mut [u8], d: usize, k: usize, verdict: Verdict)
 }
 
 // A record's entry is written and the record mended: its bytes as read go into the entry before that, those as left behind it.
-pub fn enter(rec: &mut [u8], entry: &mut [u8], d: usize, k: usize, n: u16, verdict: Verdict)
+pub fn enter(
+    rec: &mut [u8],
+    entry: &mut [u8],
+    d: usize,
+    k: usize,
+    stamp: u32,
+    n: u16,
+    verdict: Verdict,
+)
     requires { ⌜ length (now rec) ≡ recordSize d ⌝ }
     requires { ⌜ length (now entry) ≡ entrySize d ⌝ }
     requires { ⌜ Held d k ⌝ }
     requires { ⌜ NamesPlace k verdict ⌝ }
     ensures { λ _. ⌜ now (rec .exit) ≡ leftBy d k verdict (now (rec .entry)) ⌝ }
-    ensures { λ _. ⌜ now (entry .exit) ≡ entryBytes (entryBy d k n verdict (now (rec .entry))) ⌝ }
+    ensures { λ _. ⌜ now (entry .exit) ≡ entryBytes (entryBy d k stamp n verdict (now (rec .entry))) ⌝ }
 {
     let middle = HEAD + rec.len();
     let end = middle + rec.len();
     let finding = word::finding_of(verdict);
     record::put_head(
         &mut entry[0..HEAD],
+        stamp,
         n,
         finding.verdict as u8,
         finding.place as u8,

@@ -125,6 +125,9 @@ tally-counts = tallies.tally-counts
 pub pass-refuses : demands.PassRefuses
 pass-refuses = passes.pass-refuses
 
+pub askable-exactly : demands.AskableExactly
+askable-exactly = passes.askable-exactly
+
 pub pass-empty : demands.PassEmpty
 pass-empty = passes.pass-empty
 
@@ -139,6 +142,12 @@ pass-records = passes.pass-records
 
 pub pass-entries : demands.PassEntries
 pass-entries = passes.pass-entries
+
+pub pass-applied : demands.PassApplied
+pass-applied = passes.pass-applied
+
+pub stamps-rise : demands.StampsRise
+stamps-rise = passes.stamps-rise
 
 pub pass-counts : demands.PassCounts
 pass-counts = passes.pass-counts

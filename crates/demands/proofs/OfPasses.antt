@@ -1,9 +1,10 @@
 -- The demands on the pass, proved from the layers' laws. Assumes nothing.
+use Prim.{tt}
 use mathlib.Core.Path.{_≡_, refl, sym, ap, ap₂, _∙_}
 use mathlib.Core.Bool.{cond}
 use mathlib.Core.Logic.{_≢_, _⊎_, inl, inr, ⊎-elim}
 use mathlib.Core.List.{List, [], _∷_, _++_}
-use Prim.Native.Nat.{ℕ, zero, suc, _+_, _*_, _-_, _/_, _%_, _≤_, _<_}
+use Prim.Native.Nat.{ℕ, zero, suc, _+_, _*_, _-_, _/_, _%_, _^_, _≤_, _<_}
 use native.Mathlib.Nat.{add-zero}
 use native.Mathlib.Omega.{arith}
 use lib.Dec.{eqb}
@@ -12,9 +13,10 @@ use Rattle.parity.proofs.Ones.{below-or-not}
 use Rattle.code.specs.declared.Code.{Code}
 use Rattle.code.specs.declared.Opened.{Opened}
 use Rattle.code.specs.declared.Refusal.{Refusal}
+use Rattle.code.specs.declared.Standing.{Standing}
 use Rattle.code.specs.declared.Standing.the-variants as standing
-use Rattle.code.specs.Opened.{openedOf, columnsOf, Laid}
-use Rattle.code.proofs.Laid.{laid-in}
+use Rattle.code.specs.Opened.{judgementBy, openedOf, columnsOf, Laid}
+use Rattle.code.proofs.Laid.{laid-in, refused-no-acceptance}
 use Rattle.sound.proofs.Hsiao.{sound-code}
 use Rattle.word.specs.declared.Word.{Word}
 use Rattle.word.specs.declared.Verdict.{Verdict}
@@ -25,47 +27,49 @@ use Rattle.word.specs.Verdicts.{findingOf, mendedBy}
 use Rattle.word.specs.Reading.{readingBy, readingAs}
 use Rattle.word.proofs.Handed.{flipped-check, flipped-low}
 use Rattle.word.proofs.Named.{reading-names}
-use Rattle.record.specs.Bytes.{numberOf, bytesOf}
-use Rattle.record.specs.Layout.{dataSize, recordSize, entrySize, headBytes, recordBytes, dataIn, checkIn}
+use Rattle.record.specs.Bytes.{numberOf, bytesOf, byteSpan}
+use Rattle.record.specs.Layout.{dataSize, recordSize, stampSize, headBytes, recordBytes, dataIn, checkIn, Entry}
 use Rattle.record.specs.Run.{fromRecord, addUp}
 use Rattle.record.specs.Tally.{oneIf}
+use Rattle.record.specs.Journal.{entriesFrom, appliedAll}
 use Rattle.runs.proofs.Run.{record-drop}
 use Rattle.runs.proofs.Tallies.{tally-same}
 use Rattle.at_record.specs.Outcome as outcome
 use Rattle.at_record.specs.Outcome.{Reader, Held, wordIn, seen}
-use Rattle.pass.specs.Pass.{After, readerOf, countRun, afterPass}
-use Rattle.pass.specs.Asked.{Image, Run}
+use Rattle.pass.specs.Pass.{Pass, State, After, passOver, readerOf, countRun}
 use Rattle.pass.proofs.Cases.{refusedWith, pass-refused}
-use Rattle.pass.proofs.Answers.{answer-12, answer-13, answer-14, answer-done}
+use Rattle.pass.proofs.Answers.{answer-12, answer-14, answer-17, answer-16, answer-13, answer-done}
+use Rattle.passes.specs.Twice.{Step, stepsAfter}
 use Rattle.passes.proofs.Facts as facts
 use Rattle.passes.proofs.Alike.{pass-of-run}
 use Rattle.passes.proofs.Twice as twice
+use Rattle.passes.proofs.Applied as applied
+use Rattle.passes.proofs.Stamps as stamps
 use Rattle.desk.specs.declared.ReadWord.{ReadWord}
 use Rattle.desk.specs.Answers.{judgementOf, wordWith, narrowed, passedOf}
 use Rattle.demands.specs.Definitions as words
-use Rattle.demands.specs.Definitions.{Handed, Accepted, recordOf, readAt, verdictOf, placeFor, imageAfter, journalAfter, answerOf, Done, PassRefused, needed, countFrom}
+use Rattle.demands.specs.Definitions.{Handed, Accepted, recordOf, readAt, verdictOf, placeFor, imageAfter, journalAfter, answerOf, Done, PassRefused, needed, countFrom, Turn, turnsAfter, AllStamped}
 use Rattle.demands.specs.Demands as demands
 use Rattle.demands.proofs.Codes.{standing-accepted, standing-refused, data-is, opened-is, columns-are, limits-of, places-length}
 
 -- ---- refusals, in their order
 
-module _ (code : Code) (image : List ℕ) (a b : ℕ) (journal : List ℕ) where
+module _ (code : Code) (p : Pass) (s : State) where
   -- a refusal as the demands say it
-  refused-as : (number told : ℕ) → passedOf code image a b journal ≡ refusedWith number told image journal
-      → PassRefused code image a b journal (words.told number told)
+  refused-as : (number told : ℕ) → passedOf code p s ≡ refusedWith number told s → PassRefused code p s (words.told number told)
   refused-as number told e = record {
     answer = ap (λ (x : After). x .answer) e;
     same-image = ap (λ (x : After). x .image) e;
     same-journal = ap (λ (x : After). x .journal) e;
   }
 
-  by-code : words.Refused code → PassRefused code image a b journal (judgementOf code)
+  by-code : words.Refused code → PassRefused code p s (judgementOf code)
   by-code h =
       refused-as (judgementOf code .number) (judgementOf code .told)
-      (pass-refused (openedOf code) dataSize image a b journal (judgementOf code) (standing-refused code h))
+      (pass-refused (openedOf code) dataSize p s (judgementOf code) (standing-refused code h))
 
   -- a done pass is one under an accepted code
-  done-number : Done code image a b journal → judgementOf code .number ≡ 0
+  done-number : Done code p s → judgementOf code .number ≡ 0
   done-number e =
       ⊎-elim
       (λ (h : judgementOf code .number < 1). omega arith)
@@ -73,36 +77,49 @@ module _ (code : Code) (image : List ℕ) (a b : ℕ) (journal : List ℕ) where
       let f = ap (λ x. x .number) (by-code (λ z. omega arith) .answer) in absurd (omega arith))
       (below-or-not (judgementOf code .number) 1)
 
-  done-standing : Done code image a b journal → openedOf code .standing ≡ standing.Accepted
+  done-standing : Done code p s → openedOf code .standing ≡ standing.Accepted
   done-standing e = standing-accepted code (done-number e)
 
 pub pass-refuses : demands.PassRefuses
-pass-refuses code image a b journal =
+pass-refuses code p s =
     let o = openedOf code in
     let up : Accepted code → o .standing ≡ standing.Accepted = λ c. standing-accepted code (c .number) in (
-      by-code code image a b journal,
-      λ c n. refused-as code image a b journal 12 0 (answer-12 o dataSize image a b journal (up c) n),
-      λ c i n. refused-as code image a b journal 14 0 (answer-14 o dataSize image a b journal (up c) i n),
-      λ c i r n. refused-as code image a b journal 13 (needed code image a b) (answer-13 o dataSize image a b journal (up c) i r n),
-      λ c i r n.
-          let e = answer-done o dataSize image a b journal (up c) i r n in
-          (ap (λ (x : After). x .answer .number) e, ap (λ (x : After). x .answer .told) e),
+      by-code code p s,
+      λ c n. refused-as code p s 12 0 (answer-12 o dataSize p s (up c) n),
+      λ c i n. refused-as code p s 14 0 (answer-14 o dataSize p s (up c) i n),
+      λ c i r n. refused-as code p s 17 0 (answer-17 o dataSize p s (up c) i r n),
+      λ c i r m n. refused-as code p s 16 0 (answer-16 o dataSize p s (up c) i r m n),
+      λ c q n. refused-as code p s 13 (needed code (s .image) (p .start) (p .end)) (answer-13 o dataSize p s (up c) q n),
+      λ c q n.
+          let e = answer-done o dataSize p s (up c) q n in
+          (ap (λ (x : After). x .answer .number) e, ap (λ (x : After). x .answer .told) e, ap (λ (x : After). x .answer .used) e),
     )
 
+pub askable-exactly : demands.AskableExactly
+askable-exactly p s = (
+  λ q. (q .records, q .run, q .counted, q .goes-on),
+  λ x. record { records = x .0; run = x .1; counted = x .2; goes-on = x .3 },
+)
+
 pub pass-empty : demands.PassEmpty
-pass-empty code image a journal c i r =
-    let e = facts.empty-run (openedOf code) dataSize image a journal (standing-accepted code (c .number)) i (r .within) in
+pass-empty code a stamp s c q =
+    let e = facts.empty-run (openedOf code) dataSize a stamp s (standing-accepted code (c .number)) q in
     (ap (λ (x : After). x .answer) e, ap (λ (x : After). x .image) e, ap (λ (x : After). x .journal) e)
 
 pub pass-outside : demands.PassOutside
-pass-outside code image a b journal =
+pass-outside code p s =
     let o = openedOf code in
-    let s = facts.same-length o dataSize image a b journal in
-    (facts.outside-before o dataSize image a b journal, facts.outside-after o dataSize image a b journal, s .0, s .1)
+    let l = facts.same-length o dataSize p s in (
+      facts.outside-before o dataSize p s,
+      facts.outside-after o dataSize p s,
+      l .0,
+      facts.used-entries-stay o dataSize p s,
+      l .1,
+    )
 
 pub of-run : demands.PassOfRun
-of-run code image other a b journal long same =
-    let x = pass-of-run (openedOf code) dataSize other image a b journal long same in
+of-run code p s other long same =
+    let x = pass-of-run (openedOf code) dataSize p s other long same in
     (x .0, x .1)
 
 -- ---- the verdict, the place and the word of a record, as its reading has them
@@ -182,15 +199,15 @@ seen-names : (o : Opened) → length (columnsOf o) ≤ o .k + 16 → (rec : List
 unfolding seen
 seen-names o few rec = reading-names (columnsOf o) (o .k) few (o .rows) (wordIn dataSize rec)
 
-module _ (code : Code) (handed : Handed code) (image : List ℕ) (a b : ℕ) (journal : List ℕ) (done : Done code image a b journal) where
+module _ (code : Code) (handed : Handed code) (p : Pass) (s : State) (done : Done code p s) where
   abbrev o : Opened
   o = openedOf code
 
   number : judgementOf code .number ≡ 0
-  number = done-number code image a b journal done
+  number = done-number code p s done
 
   taken : o .standing ≡ standing.Accepted
-  taken = done-standing code image a b journal done
+  taken = done-standing code p s done
 
   accepted : Accepted code
   accepted = record { handed = handed; number = number }
@@ -209,60 +226,110 @@ module _ (code : Code) (handed : Handed code) (image : List ℕ) (a b : ℕ) (jo
   held = let few = laid .1 in record { least = omega arith; most = omega arith; data-held = omega arith }
 
   -- a mended record is that of the word that its reading hands back
-  mended-same : (i : ℕ) → let f = readerOf o dataSize in let rec = recordOf image i in
+  mended-same : (i : ℕ) → let f = readerOf o dataSize in let rec = recordOf (s .image) i in
       (outcome.verdictOf f rec ≡ 1) ⊎ (outcome.verdictOf f rec ≡ 2)
       → outcome.recordOf dataSize (mendedBy (seen f rec) (o .k) (wordIn dataSize rec))
-      ≡ recordBytes dataSize (readAt code image i .«data») (readAt code image i .check)
+      ≡ recordBytes dataSize (readAt code (s .image) i .«data») (readAt code (s .image) i .check)
   unfolding outcome.verdictOf
   mended-same i h =
-      let rec = recordOf image i in
+      let rec = recordOf (s .image) i in
       let v = seen (readerOf o dataSize) rec in
       let w = wordWith (dataIn dataSize rec) (checkIn dataSize rec) in
       let m = mendedBy v (o .k) w in
       let names = seen-names o few-checks rec in
       let empty : m .high ≡ 0 = high-stays v (o .k) w (laid .1) names in
       let low : joined (m .low) (m .high) ≡ m .low = ap (joined (m .low)) empty ∙ add-zero (m .low) in
-      let same = ap (λ (x : ReadWord). x) (read-same code number image i) in
+      let same = ap (λ (x : ReadWord). x) (read-same code number (s .image) i) in
       let back = word-read v (o .k) w h in
-      ap (λ (x : Word). outcome.recordOf dataSize (mendedBy v (o .k) x)) (word-same code number image i)
+      ap (λ (x : Word). outcome.recordOf dataSize (mendedBy v (o .k) x)) (word-same code number (s .image) i)
       ∙ ap (λ (x : ℕ). recordBytes dataSize x (m .check)) low
       ∙ sym (ap (λ (x : ReadWord). recordBytes dataSize (x .«data») (x .check)) same
       ∙ ap (λ (x : Word). recordBytes dataSize (x .low) (x .check)) back)
 
 pub pass-records : demands.PassRecords
-pass-records code handed image a b journal done i l u =
+pass-records code handed p s done i l u =
     let o = openedOf code in
-    let t = done-standing code image a b journal done in
-    let v = verdict-same code (done-number code image a b journal done) image i in (
+    let t = done-standing code p s done in
+    let v = verdict-same code (done-number code p s done) (s .image) i in (
       λ h.
           let g = ⊎-elim (λ x. inl (v ∙ x)) (λ x. inr (v ∙ x)) h in
-          facts.mended-is o dataSize image a b journal t done i l u g ∙ mended-same code handed image a b journal done i g,
-      λ x y. facts.unmended-stays o dataSize image a b journal t done i l u (λ z. x (sym v ∙ z)) (λ z. y (sym v ∙ z)),
+          facts.mended-is o dataSize p s t done i l u g ∙ mended-same code handed p s done i g,
+      λ x y. facts.unmended-stays o dataSize p s t done i l u (λ z. x (sym v ∙ z)) (λ z. y (sym v ∙ z)),
     )
 
 -- an entry's bytes, spelled out
-entry-spelled : (i verdict place : ℕ) (before after : List ℕ)
-    → headBytes i verdict place ++ (before ++ after) ≡ words.entryOf i verdict place before after
+entry-spelled : (stamp i verdict place : ℕ) (before after : List ℕ)
+    → headBytes stamp i verdict place ++ (before ++ after) ≡ words.entryOf stamp i verdict place before after
 unfolding headBytes bytesOf
-entry-spelled i verdict place before after = refl
+entry-spelled stamp i verdict place before after = refl
 
 pub pass-entries : demands.PassEntries
-pass-entries code handed image a b journal done =
+pass-entries code handed p s done =
     let o = openedOf code in
-    let t = done-standing code image a b journal done in
-    let n = done-number code image a b journal done in (
+    let t = done-standing code p s done in
+    let n = done-number code p s done in (
       λ i l u m.
-          let v = verdict-same code n image i in
-          let p = place-same code n image i in
-          let left = recordOf (imageAfter code image a b journal) i in
-          facts.entry-is o dataSize image a b journal t done i l u (λ z. m (sym v ∙ z))
-          ∙ entry-spelled i _ _ (recordOf image i) left
-          ∙ ap₂ (λ (x y : ℕ). words.entryOf i x y (recordOf image i) left) (finding-verdict code n image i ∙ v) p,
+          let v = verdict-same code n (s .image) i in
+          let place = place-same code n (s .image) i in
+          let left = recordOf (imageAfter code p s) i in
+          facts.entry-is o dataSize p s t done i l u (λ z. m (sym v ∙ z))
+          ∙ entry-spelled (p .stamp) i _ _ (recordOf (s .image) i) left
+          ∙ ap₂ (λ (x y : ℕ). words.entryOf (p .stamp) i x y (recordOf (s .image) i) left)
+          (finding-verdict code n (s .image) i ∙ v) place,
       λ m l.
-          let x = facts.entry-whose o dataSize image a b journal t done m l in
-          (x .0, x .1, x .2, λ z. x .3 (verdict-same code n image (x .0) ∙ z), x .4),
-      facts.journal-stays o dataSize image a b journal t done,
+          let x = facts.entry-whose o dataSize p s t done m l in
+          (x .0, x .1, x .2, λ z. x .3 (verdict-same code n (s .image) (x .0) ∙ z), x .4),
+      facts.journal-stays o dataSize p s t done,
     )
+
+-- ---- what it does is its list of entries
+
+-- 32 bits are four bytes
+four-bytes : (n : ℕ) → n < 2 ^ 32 → n < byteSpan stampSize
+unfolding byteSpan
+four-bytes n h = omega arith
+
+pub pass-applied : demands.PassApplied
+pass-applied code p s small done =
+    let o = openedOf code in
+    let t = done-standing code p s done in
+    let used = facts.used-is o dataSize p s t done in
+    let count : answerOf code p s .used - s .used ≡ needed code (s .image) (p .start) (p .end) = omega (arith, used) in
+    applied.image-applied o p s dataSize t done
+    ∙ ap (λ (es : List Entry). appliedAll dataSize es (s .image))
+    (sym (ap (λ (n : ℕ). entriesFrom dataSize (journalAfter code p s) (s .used) n) count
+    ∙ applied.new-read o p s dataSize t done (four-bytes (p .stamp) small)))
+
+-- ---- stamps
+
+-- a refused code tells a number
+known : (code : Code) → stamps.Known (openedOf code)
+known code g e z =
+    refused-no-acceptance (sym e ∙ standing-accepted code (ap (λ (x : Standing). judgementBy x .number) e ∙ z))
+
+abbrev step-of : Turn → Step
+step-of x = record { under = openedOf (x .code); pass = x .pass }
+
+abbrev steps-of : List Turn → List Step
+steps-of [] = []
+steps-of (x ∷ xs) = step-of x ∷ steps-of xs
+
+same-after : (xs : List Turn) (s : State) → turnsAfter xs s ≡ stepsAfter dataSize (steps-of xs) s
+unfolding turnsAfter stepsAfter
+same-after [] s = refl
+same-after (x ∷ xs) s = same-after xs (words.stateAfter (x .code) (x .pass) s)
+
+all-known : (xs : List Turn) → AllStamped xs → stamps.AllSteps (steps-of xs)
+unfolding AllStamped stamps.AllSteps
+all-known [] h = tt
+all-known (x ∷ xs) h = ((known (x .code), four-bytes (x .pass .stamp) (h .0)), all-known xs (h .1))
+
+pub stamps-rise : demands.StampsRise
+stamps-rise turns s small none =
+    let r = stamps.steps-rising dataSize (steps-of turns) s (all-known turns small) (stamps.empty-rising dataSize s none) in
+    let e = same-after turns s in
+    let q : stamps.Rising dataSize (turnsAfter turns s) = rw e r in
+    (q .counted, q .rises)
 
 -- the counts of a run, record by record
 counted : (code : Code) (e : judgementOf code .number ≡ 0) (image : List ℕ) (v a n : ℕ)
@@ -278,33 +345,34 @@ counted code e image v a (suc n) =
     ∙ verdict-same code e image (a + n)))
 
 pub pass-counts : demands.PassCounts
-pass-counts code handed image a b journal done =
+pass-counts code handed p s done =
     let o = openedOf code in
-    let t = done-standing code image a b journal done in
-    let n = done-number code image a b journal done in (
-      facts.tally-is o dataSize image a b journal t done
-          ∙ tally-same (countRun (readerOf o dataSize) image a b) (λ v. countFrom code image v a (b - a))
-          (λ v. counted code n image v a (b - a)),
-      facts.six-add-up o dataSize image a b journal t done,
-      facts.five-add-up o dataSize image a b journal t done,
+    let t = done-standing code p s done in
+    let n = done-number code p s done in (
+      facts.tally-is o dataSize p s t done
+          ∙ tally-same (countRun (readerOf o dataSize) (s .image) (p .start) (p .end))
+          (λ v. countFrom code (s .image) v (p .start) (p .end - p .start))
+          (λ v. counted code n (s .image) v (p .start) (p .end - p .start)),
+      facts.six-add-up o dataSize p s t done,
+      facts.five-add-up o dataSize p s t done,
     )
 
 -- ---- two passes
 
 pub pass-again : demands.PassAgain
-pass-again code handed image a b journal done again room =
-    let l = laid code handed image a b journal done in
-    twice.pass-again (openedOf code) dataSize (sound-code code handed) (l .0) (held code handed image a b journal done)
-    (done-standing code image a b journal done) image (inl (l .1)) a b journal done again room
+pass-again code handed p s done =
+    let l = laid code handed p s done in
+    twice.pass-again (openedOf code) dataSize (sound-code code handed) (l .0) (held code handed p s done)
+    (done-standing code p s done) p s (inl (l .1)) done
 
 pub pass-in-two : demands.PassInTwo
-pass-in-two code image a b c journal =
+pass-in-two code a b c stamp s =
     let o = openedOf code in (
-      λ up on d. twice.done-both o dataSize image a b c journal (done-standing code image a c journal d) d up on,
+      λ up on d. twice.done-both o dataSize a b c stamp s (done-standing code (passOver a c stamp) s d) d up on,
       λ first second.
-          let t = done-standing code image a b journal first in (
-            twice.both-done o dataSize image a b c journal t first second,
-            twice.both-image o dataSize image a b c journal t first second,
-            twice.both-journal o dataSize image a b c journal t first second,
+          let t = done-standing code (passOver a b stamp) s first in (
+            twice.both-answer o dataSize a b c stamp s t first second,
+            twice.both-image o dataSize a b c stamp s t first second,
+            twice.both-journal o dataSize a b c stamp s t first second,
           ),
     )

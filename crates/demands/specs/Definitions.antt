@@ -1,8 +1,9 @@
 -- The words that Demands.antt uses. Assumes nothing.
+use Prim.{Unit}
 use mathlib.Core.Path.{_≡_}
 use mathlib.Core.List.{List, [], _∷_, _++_}
 use mathlib.Core.Bool.{cond}
-use Prim.Native.Nat.{ℕ, zero, suc, _+_, _/_, _%_, _^_, _<_}
+use Prim.Native.Nat.{ℕ, zero, suc, _+_, _-_, _/_, _%_, _^_, _<_}
 use lib.Dec.{eqb}
 use lib.IntN.{pos}
 use lib.ListN.{length, take, replicate}
@@ -19,10 +20,12 @@ use Rattle.explain.specs.Explanations as explaining
 use Rattle.cards.specs.declared.CardCheck.{CardCheck}
 use Rattle.cards.specs.Cards.{Card, allCards}
 use Rattle.record.specs.declared.Tally.{Tally}
-use Rattle.record.specs.Layout.{dataSize, recordSize, entrySize, dataIn, checkIn}
+use Rattle.record.specs.Layout.{dataSize, recordSize, entrySize, dataIn, checkIn, Entry}
 use Rattle.record.specs.Run.{recordAt}
+use Rattle.record.specs.Journal.{entriesFrom}
 use Rattle.pass.specs.declared.PassAnswer.{PassAnswer}
-use Rattle.pass.specs.Pass.{readerOf, neededRun}
+use Rattle.pass.specs.Pass.{Pass, State, readerOf, neededRun}
+use Rattle.passes.specs.Twice.{stateIn}
 use Rattle.desk.specs.declared.ReadWord.{ReadWord}
 use Rattle.desk.specs.Answers.{judgementOf, readOf, passedOf}
 
@@ -108,7 +111,7 @@ abbrev pub allZero : Tally
 allZero = record { clean = 0; «data» = 0; check = 0; even = 0; odd = 0; stray = 0 }
 
 abbrev pub refusedPass : Refusal → PassAnswer
-refusedPass f = record { number = f .number; told = f .told; tally = allZero }
+refusedPass f = record { number = f .number; told = f .told; used = 0; tally = allZero }
 
 -- ---- images and journals, of records with 8 bytes of data
 
@@ -125,9 +128,12 @@ room journal = length journal / entrySize dataSize
 abbrev pub needed : Code → List ℕ → ℕ → ℕ → ℕ
 needed code image a b = neededRun (readerOf (openedOf code) dataSize) image a b
 
--- the bytes of an entry: record number, low byte first, verdict, place, the record as read and as left
-abbrev pub entryOf : ℕ → ℕ → ℕ → List ℕ → List ℕ → List ℕ
-entryOf i verdict place before after = (i % 256 ∷ i / 256 % 256 ∷ verdict ∷ place ∷ []) ++ (before ++ after)
+-- the bytes of an entry: stamp and record number, low byte first, verdict, place, the record as read and as left
+abbrev pub entryOf : ℕ → ℕ → ℕ → ℕ → List ℕ → List ℕ → List ℕ
+entryOf stamp i verdict place before after =
+    (stamp % 256 ∷ stamp / 256 % 256 ∷ stamp / 256 / 256 % 256 ∷ stamp / 256 / 256 / 256 % 256
+    ∷ i % 256 ∷ i / 256 % 256 ∷ verdict ∷ place ∷ [])
+    ++ (before ++ after)
 
 -- reading the word that the record i says
 abbrev pub readAt : Code → List ℕ → ℕ → ReadWord
@@ -140,24 +146,49 @@ verdictOf code image i = cond (eqb (readAt code image i .number) 7) 5 (readAt co
 abbrev pub placeFor : Code → List ℕ → ℕ → ℕ
 placeFor code image i = cond (eqb (readAt code image i .number) 7) 255 (readAt code image i .place)
 
--- a pass over the run from a up to b: its answer, image and journal afterwards, and that it is done
-abbrev pub answerOf : Code → List ℕ → ℕ → ℕ → List ℕ → PassAnswer
-answerOf code image a b journal = passedOf code image a b journal .answer
+-- a pass: its answer, image and journal afterwards, and that it is done
+abbrev pub answerOf : Code → Pass → State → PassAnswer
+answerOf code p s = passedOf code p s .answer
 
-abbrev pub imageAfter : Code → List ℕ → ℕ → ℕ → List ℕ → List ℕ
-imageAfter code image a b journal = passedOf code image a b journal .image
+abbrev pub imageAfter : Code → Pass → State → List ℕ
+imageAfter code p s = passedOf code p s .image
 
-abbrev pub journalAfter : Code → List ℕ → ℕ → ℕ → List ℕ → List ℕ
-journalAfter code image a b journal = passedOf code image a b journal .journal
+abbrev pub journalAfter : Code → Pass → State → List ℕ
+journalAfter code p s = passedOf code p s .journal
 
-abbrev pub Done : Code → List ℕ → ℕ → ℕ → List ℕ → Type 0
-Done code image a b journal = answerOf code image a b journal .number ≡ 0
+abbrev pub Done : Code → Pass → State → Type 0
+Done code p s = answerOf code p s .number ≡ 0
 
--- a refused pass: this number and what it tells, an all-zero tally, and no byte of image or journal changed
-pub record PassRefused (code : Code) (image : List ℕ) (a b : ℕ) (journal : List ℕ) (f : Refusal) : Type 0 where
-  pub answer : answerOf code image a b journal ≡ refusedPass f
-  pub same-image : imageAfter code image a b journal ≡ image
-  pub same-journal : journalAfter code image a b journal ≡ journal
+-- a refused pass: this number and what it tells, count in use and tally all zero, and no byte of image or journal changed
+pub record PassRefused (code : Code) (p : Pass) (s : State) (f : Refusal) : Type 0 where
+  pub answer : answerOf code p s ≡ refusedPass f
+  pub same-image : imageAfter code p s ≡ s .image
+  pub same-journal : journalAfter code p s ≡ s .journal
+
+-- what the next pass works on: image and journal as they are left, and the count in use, which a refused pass leaves
+abbrev pub stateAfter : Code → Pass → State → State
+stateAfter code p s = stateIn s (passedOf code p s)
+
+-- passes in their order, each under a code of its own and told the true count in use
+pub record Turn : Type 0 where
+  pub code : Code
+  pub pass : Pass
+
+unfoldable pub turnsAfter : List Turn → State → State
+turnsAfter [] s = s
+turnsAfter (x ∷ xs) s = turnsAfter xs (stateAfter (x .code) (x .pass) s)
+
+-- a stamp is a number of 32 bits
+abbrev pub Stamped : Pass → Type 0
+Stamped p = p .stamp < 2 ^ 32
+
+unfoldable pub AllStamped : List Turn → Type 0
+AllStamped [] = Unit
+AllStamped (x ∷ xs) = Stamped (x .pass) × AllStamped xs
+
+-- the new entries of a pass, as the journal says them
+abbrev pub newEntries : Code → Pass → State → List Entry
+newEntries code p s = entriesFrom dataSize (journalAfter code p s) (s .used) (answerOf code p s .used - s .used)
 
 -- how many of the n records from a on have the verdict v: one for each, the newest last
 unfoldable pub countFrom : Code → List ℕ → ℕ → ℕ → ℕ → ℕ

@@ -27,12 +27,14 @@ use Rattle.balance.specs.Balance.{rowOnes, allOnes, sumℤ}
 use Rattle.record.specs.Bytes.{AllBytes}
 use Rattle.record.specs.Layout.{dataSize, recordSize, entrySize, imageLimit, recordBytes, dataIn, checkIn, Entry, entryBytes, entryIn}
 use Rattle.record.specs.Run.{over}
+use Rattle.record.specs.Journal.{appliedAll}
 use Rattle.record.specs.Tally.{tallyBy, countedOf}
 use Rattle.listing.specs.Sets.{flipAll, entryOf, bytesFor}
 use Rattle.explain.specs.Order.{SetOf, InOrder}
 use Rattle.cards.specs.Cards.{cardAt}
 use Rattle.cards.specs.Rule.{CardProof, FirstWeak, flipMask}
-use Rattle.pass.specs.Asked.{Image, NoImage, Run, NoRun}
+use Rattle.pass.specs.Pass.{Pass, State, passOver, stateOf, stampAt}
+use Rattle.pass.specs.Asked.{Image, NoImage, Run, NoRun, GoesBack, Askable}
 use Rattle.passes.specs.Twice.{added, tallyAgain}
 use Rattle.sheet.specs.Sheets.{Asked}
 use Rattle.sheet.specs.Rule.{NoSheet, Stands, Within}
@@ -41,7 +43,8 @@ use Rattle.desk.specs.Answers.{checkBitsOf, judgementOf, rowsOf, writtenOf, rea
 use Rattle.demands.specs.Definitions.{Handed, Stored, Accepted, Refused, dataColumns, placesOf, Unstrayed, read, HandsBack, Clean}
 use Rattle.demands.specs.Definitions.{explanations, explanationsOf, told, onlyNumber, refusedRows, refusedWriting, refusedReading, refusedListing}
 use Rattle.demands.specs.Definitions.{cardsFor, refusedCards, allZero, PassRefused, recordOf, entryAt, room, needed, readAt, verdictOf, placeFor}
-use Rattle.demands.specs.Definitions.{answerOf, imageAfter, journalAfter, Done, countFrom}
+use Rattle.demands.specs.Definitions.{answerOf, imageAfter, journalAfter, Done, stateAfter, Turn, turnsAfter, Stamped, AllStamped, newEntries}
+use Rattle.demands.specs.Definitions.{countFrom}
 use Rattle.demands.specs.Definitions as words
 use Rattle.demands.specs.Sheets.{sheetFor, noFigures}
 use Rattle.least.specs.Order.{Before}
@@ -50,9 +53,9 @@ use Rattle.demands.specs.Making.{IsMade, noCode}
 
 -- ---- records and entries
 
--- Records have 10 bytes, entries 24, and an image at most 65,530.
+-- Records have 10 bytes, entries 28, and an image at most 65,530.
 abbrev pub Sizes : Type 0
-Sizes = (recordSize dataSize ≡ 10) × (entrySize dataSize ≡ 24) × (imageLimit dataSize ≡ 65530)
+Sizes = (recordSize dataSize ≡ 10) × (entrySize dataSize ≡ 28) × (imageLimit dataSize ≡ 65530)
 
 -- A record's bytes say data and check bits, and these the bytes: each word has one record, each record one word.
 abbrev pub RecordsRead : Type 0
@@ -61,11 +64,12 @@ RecordsRead =
     × ((low check : ℕ) → low < 2 ^ 64 → check < 2 ^ 16
     → (dataIn dataSize (recordBytes dataSize low check) ≡ low) × (checkIn dataSize (recordBytes dataSize low check) ≡ check))
 
--- An entry's bytes say a record's number, verdict and place and its bytes before and after, and these the bytes.
+-- An entry's bytes say a pass's stamp, a record's number, verdict and place and its bytes before and after, and these the bytes.
 abbrev pub EntriesRead : Type 0
 EntriesRead =
-    ((bytes : List ℕ) → AllBytes bytes → length bytes ≡ 24 → entryBytes (entryIn dataSize bytes) ≡ bytes)
-    × ((e : Entry) → e .number < 2 ^ 16 → length (e .before) ≡ 10 → length (e .after) ≡ 10 → entryIn dataSize (entryBytes e) ≡ e)
+    ((bytes : List ℕ) → AllBytes bytes → length bytes ≡ 28 → entryBytes (entryIn dataSize bytes) ≡ bytes)
+    × ((e : Entry) → e .stamp < 2 ^ 32 → e .number < 2 ^ 16 → length (e .before) ≡ 10 → length (e .after) ≡ 10
+    → entryIn dataSize (entryBytes e) ≡ e)
 
 -- ---- the code
 
@@ -341,99 +345,144 @@ TallyCounts =
 -- ---- the pass
 
 -- A pass refuses in this order: the code's number and place; 12 for an image whose length is no multiple of 10 or over 65,530; 14 for a
--- run whose start is above its end or whose end is above the number of records; 13, told the entries needed, where the journal has room
--- for fewer. A refused pass has an all-zero tally and changes no byte of image or journal.
+-- run whose start is above its end or whose end is above the number of records; 17 where the count in use is over the journal's room; 16
+-- where an entry is in use and the stamp is below the last one's; 13, told the entries needed, where the room that is left is for fewer.
+-- A refused pass has an all-zero answer but for number and told, and changes no byte of image or journal. A done one hands back the count
+-- in use afterwards.
 abbrev pub PassRefuses : Type 0
 PassRefuses =
-    (code : Code) (image : List ℕ) (a b : ℕ) (journal : List ℕ)
-    → (Refused code → PassRefused code image a b journal (judgementOf code))
-    × (Accepted code → NoImage dataSize image → PassRefused code image a b journal (onlyNumber 12))
-    × (Accepted code → Image dataSize image → NoRun dataSize image a b → PassRefused code image a b journal (onlyNumber 14))
-    × (Accepted code → Image dataSize image → Run dataSize image a b → room journal < needed code image a b
-    → PassRefused code image a b journal (told 13 (needed code image a b)))
-    × (Accepted code → Image dataSize image → Run dataSize image a b → needed code image a b ≤ room journal
-    → Done code image a b journal × (answerOf code image a b journal .told ≡ 0))
+    (code : Code) (p : Pass) (s : State)
+    → let wanted = needed code (s .image) (p .start) (p .end) in
+    (Refused code → PassRefused code p s (judgementOf code))
+    × (Accepted code → NoImage dataSize (s .image) → PassRefused code p s (onlyNumber 12))
+    × (Accepted code → Image dataSize (s .image) → NoRun dataSize (s .image) (p .start) (p .end) → PassRefused code p s (onlyNumber 14))
+    × (Accepted code → Image dataSize (s .image) → Run dataSize (s .image) (p .start) (p .end) → room (s .journal) < s .used
+    → PassRefused code p s (onlyNumber 17))
+    × (Accepted code → Image dataSize (s .image) → Run dataSize (s .image) (p .start) (p .end) → s .used ≤ room (s .journal)
+    → GoesBack dataSize (p .stamp) (s .journal) (s .used) → PassRefused code p s (onlyNumber 16))
+    × (Accepted code → Askable dataSize p s → room (s .journal) - s .used < wanted → PassRefused code p s (told 13 wanted))
+    × (Accepted code → Askable dataSize p s → wanted ≤ room (s .journal) - s .used
+    → Done code p s × (answerOf code p s .told ≡ 0) × (answerOf code p s .used ≡ s .used + wanted))
 
--- A run with equal ends is done: a tally of zeros, and no byte changed.
+-- Askable is that none of 12, 14, 17 and 16 holds.
+abbrev pub AskableExactly : Type 0
+AskableExactly =
+    (p : Pass) (s : State)
+    → Askable dataSize p s
+    ↔ (Image dataSize (s .image) × Run dataSize (s .image) (p .start) (p .end) × (s .used ≤ room (s .journal))
+    × ((s .used ≡ 0) ⊎ (stampAt dataSize (s .journal) (s .used - 1) ≤ p .stamp)))
+
+-- A run with equal ends is done: a tally of zeros, no byte changed, and as many entries in use.
 abbrev pub PassEmpty : Type 0
 PassEmpty =
-    (code : Code) (image : List ℕ) (a : ℕ) (journal : List ℕ) → Accepted code → Image dataSize image → Run dataSize image a a
-    → (answerOf code image a a journal ≡ record { number = 0; told = 0; tally = allZero })
-    × (imageAfter code image a a journal ≡ image)
-    × (journalAfter code image a a journal ≡ journal)
+    (code : Code) (a stamp : ℕ) (s : State) → Accepted code → Askable dataSize (passOver a a stamp) s
+    → let p = passOver a a stamp in
+    (answerOf code p s ≡ record { number = 0; told = 0; used = s .used; tally = allZero })
+    × (imageAfter code p s ≡ s .image)
+    × (journalAfter code p s ≡ s .journal)
 
--- Whatever is answered, the bytes outside the run stay.
+-- Whatever is answered, the bytes outside the run stay, and the entries in use.
 abbrev pub PassOutside : Type 0
 PassOutside =
-    (code : Code) (image : List ℕ) (a b : ℕ) (journal : List ℕ)
-    → (take (a * recordSize dataSize) (imageAfter code image a b journal) ≡ take (a * recordSize dataSize) image)
-    × (drop (b * recordSize dataSize) (imageAfter code image a b journal) ≡ drop (b * recordSize dataSize) image)
-    × (length (imageAfter code image a b journal) ≡ length image)
-    × (length (journalAfter code image a b journal) ≡ length journal)
+    (code : Code) (p : Pass) (s : State)
+    → (take (p .start * recordSize dataSize) (imageAfter code p s) ≡ take (p .start * recordSize dataSize) (s .image))
+    × (drop (p .end * recordSize dataSize) (imageAfter code p s) ≡ drop (p .end * recordSize dataSize) (s .image))
+    × (length (imageAfter code p s) ≡ length (s .image))
+    × (take (s .used * entrySize dataSize) (journalAfter code p s) ≡ take (s .used * entrySize dataSize) (s .journal))
+    × (length (journalAfter code p s) ≡ length (s .journal))
 
--- Nor are they judged: images of one length that agree on the run's records get the same answer and the same journal.
+-- Nor are the bytes outside the run judged: images of one length that agree on its records get the same answer and the same journal.
 abbrev pub PassOfRun : Type 0
 PassOfRun =
-    (code : Code) (image other : List ℕ) (a b : ℕ) (journal : List ℕ) → length image ≡ length other
-    → ((i : ℕ) → a ≤ i → i < b → recordOf image i ≡ recordOf other i)
-    → (answerOf code image a b journal ≡ answerOf code other a b journal)
-    × (journalAfter code image a b journal ≡ journalAfter code other a b journal)
+    (code : Code) (p : Pass) (s : State) (other : List ℕ) → length other ≡ length (s .image)
+    → ((i : ℕ) → p .start ≤ i → i < p .end → recordOf other i ≡ recordOf (s .image) i)
+    → let t = stateOf other (s .journal) (s .used) in
+    (answerOf code p t ≡ answerOf code p s) × (journalAfter code p t ≡ journalAfter code p s)
 
 -- In a done pass only records of verdict 1 and 2 of the run change, each to the word that reading it hands back.
 abbrev pub PassRecords : Type 0
 PassRecords =
-    (code : Code) → Handed code → (image : List ℕ) (a b : ℕ) (journal : List ℕ) → Done code image a b journal
-    → (i : ℕ) → a ≤ i → i < b
-    → ((verdictOf code image i ≡ 1) ⊎ (verdictOf code image i ≡ 2)
-    → recordOf (imageAfter code image a b journal) i ≡ recordBytes dataSize (readAt code image i .«data») (readAt code image i .check))
-    × (verdictOf code image i ≢ 1 → verdictOf code image i ≢ 2 → recordOf (imageAfter code image a b journal) i ≡ recordOf image i)
+    (code : Code) → Handed code → (p : Pass) (s : State) → Done code p s
+    → (i : ℕ) → p .start ≤ i → i < p .end
+    → let v = verdictOf code (s .image) i in
+    ((v ≡ 1) ⊎ (v ≡ 2)
+    → recordOf (imageAfter code p s) i ≡ recordBytes dataSize (readAt code (s .image) i .«data») (readAt code (s .image) i .check))
+    × (v ≢ 1 → v ≢ 2 → recordOf (imageAfter code p s) i ≡ recordOf (s .image) i)
 
--- Each record of the run with a verdict 1 to 5 has its entry, behind those of the run's records before it: number, verdict, place, the
--- bytes as read and the bytes as left. There are no other entries, and the journal's bytes past them stay.
+-- Each record of the run with a verdict 1 to 5 has its entry, right behind those in use and those of the run's records before it: the
+-- pass's stamp, number, verdict, place, the bytes as read and the bytes as left. There are no other new entries, and the journal's bytes
+-- past them stay.
 abbrev pub PassEntries : Type 0
 PassEntries =
-    (code : Code) → Handed code → (image : List ℕ) (a b : ℕ) (journal : List ℕ) → Done code image a b journal
-    → ((i : ℕ) → a ≤ i → i < b → verdictOf code image i ≢ 0
-    → entryAt (journalAfter code image a b journal) (needed code image a i)
-    ≡ words.entryOf i (verdictOf code image i) (placeFor code image i) (recordOf image i) (recordOf (imageAfter code image a b journal) i))
-    × ((m : ℕ) → m < needed code image a b
-    → (i : ℕ) × (a ≤ i) × (i < b) × (verdictOf code image i ≢ 0) × (needed code image a i ≡ m))
-    × (drop (entrySize dataSize * needed code image a b) (journalAfter code image a b journal)
-    ≡ drop (entrySize dataSize * needed code image a b) journal)
+    (code : Code) → Handed code → (p : Pass) (s : State) → Done code p s
+    → let before = needed code (s .image) (p .start) in
+    let end = (s .used + before (p .end)) * entrySize dataSize in
+    ((i : ℕ) → p .start ≤ i → i < p .end → verdictOf code (s .image) i ≢ 0
+    → entryAt (journalAfter code p s) (s .used + before i)
+    ≡ words.entryOf (p .stamp) i (verdictOf code (s .image) i) (placeFor code (s .image) i) (recordOf (s .image) i)
+    (recordOf (imageAfter code p s) i))
+    × ((m : ℕ) → m < before (p .end)
+    → (i : ℕ) × (p .start ≤ i) × (i < p .end) × (verdictOf code (s .image) i ≢ 0) × (before i ≡ m))
+    × (drop end (journalAfter code p s) ≡ drop end (s .journal))
+
+-- The image as it is left is the image with the new entries applied in their order, each by its number and its bytes as left.
+abbrev pub PassApplied : Type 0
+PassApplied =
+    (code : Code) (p : Pass) (s : State) → Stamped p → Done code p s
+    → imageAfter code p s ≡ appliedAll dataSize (newEntries code p s) (s .image)
+
+-- Along a journal that passes have filled from empty, refused passes among them, stamps never fall; and the count in use is within the room.
+abbrev pub StampsRise : Type 0
+StampsRise =
+    (turns : List Turn) (s : State) → AllStamped turns → s .used ≡ 0
+    → let t = turnsAfter turns s in
+    (t .used ≤ room (t .journal))
+    × ((i j : ℕ) → i ≤ j → j < t .used → stampAt dataSize (t .journal) i ≤ stampAt dataSize (t .journal) j)
 
 -- Each count of a done pass is the number of the run's records with that verdict; the six add up to the run's length, the last five to
--- the entries.
+-- the new entries.
 abbrev pub PassCounts : Type 0
 PassCounts =
-    (code : Code) → Handed code → (image : List ℕ) (a b : ℕ) (journal : List ℕ) → Done code image a b journal
-    → let t = answerOf code image a b journal .tally in
-    (t ≡ tallyBy (λ v. countFrom code image v a (b - a)))
-    × (t .clean + t .«data» + t .check + t .even + t .odd + t .stray ≡ b - a)
-    × (needed code image a b ≡ t .«data» + t .check + t .even + t .odd + t .stray)
+    (code : Code) → Handed code → (p : Pass) (s : State) → Done code p s
+    → let t = answerOf code p s .tally in
+    (t ≡ tallyBy (λ v. countFrom code (s .image) v (p .start) (p .end - p .start)))
+    × (t .clean + t .«data» + t .check + t .even + t .odd + t .stray ≡ p .end - p .start)
+    × (needed code (s .image) (p .start) (p .end) ≡ t .«data» + t .check + t .even + t .odd + t .stray)
 
--- Passing over a done run again finds every mended record clean and the others as before, and changes no byte of the image.
+-- Passing over a done run again, with any stamp and journal that allow it, finds every mended record clean and the others as before, and
+-- changes no byte of the image.
 abbrev pub PassAgain : Type 0
 PassAgain =
-    (code : Code) → Handed code → (image : List ℕ) (a b : ℕ) (journal : List ℕ) → Done code image a b journal
-    → let t = answerOf code image a b journal .tally in
-    let left = imageAfter code image a b journal in
-    (again : List ℕ) → t .even + t .odd + t .stray ≤ room again
-    → (answerOf code left a b again ≡ record { number = 0; told = 0; tally = tallyAgain t }) × (imageAfter code left a b again ≡ left)
+    (code : Code) → Handed code → (p : Pass) (s : State) → Done code p s
+    → let t = answerOf code p s .tally in
+    let unmended = t .even + t .odd + t .stray in
+    let left = imageAfter code p s in
+    (stamp : ℕ) (journal : List ℕ) (used : ℕ) → used ≤ room journal
+    → (used ≡ 0) ⊎ (stampAt dataSize journal (used - 1) ≤ stamp) → unmended ≤ room journal - used
+    → let again = passOver (p .start) (p .end) stamp in
+    (answerOf code again (stateOf left journal used) ≡ record { number = 0; told = 0; used = used + unmended; tally = tallyAgain t })
+    × (imageAfter code again (stateOf left journal used) ≡ left)
 
--- A pass over [a, b) and then one over [b, c), its journal going on behind the first's entries, are the pass over [a, c): done where it
--- is, and where both are done, it is, with the tallies added, the same image, the same journal.
+-- A pass over [a, b) and then one over [b, c) with the same stamp, told the count in use, are the pass over [a, c): done where it is, and
+-- where both are done, it is, with the tallies added, and the same image, journal and count in use.
 abbrev pub PassInTwo : Type 0
 PassInTwo =
-    (code : Code) (image : List ℕ) (a b c : ℕ) (journal : List ℕ)
-    → let left = imageAfter code image a b journal in
-    let used = entrySize dataSize * needed code image a b in
-    let rest = drop used (journalAfter code image a b journal) in
-    (a ≤ b → b ≤ c → Done code image a c journal → Done code image a b journal × Done code left b c rest)
-    × (Done code image a b journal → Done code left b c rest
-    → (answerOf code image a c journal
-    ≡ record { number = 0; told = 0; tally = added (answerOf code image a b journal .tally) (answerOf code left b c rest .tally) })
-    × (imageAfter code image a c journal ≡ imageAfter code left b c rest)
-    × (journalAfter code image a c journal ≡ take used (journalAfter code image a b journal) ++ journalAfter code left b c rest))
+    (code : Code) (a b c stamp : ℕ) (s : State)
+    → let first = passOver a b stamp in
+    let second = passOver b c stamp in
+    let whole = passOver a c stamp in
+    let mid = stateAfter code first s in
+    (a ≤ b → b ≤ c → Done code whole s → Done code first s × Done code second mid)
+    × (Done code first s → Done code second mid
+    → (answerOf code whole s
+    ≡ record {
+      number = 0;
+      told = 0;
+      used = answerOf code second mid .used;
+      tally = added (answerOf code first s .tally) (answerOf code second mid .tally);
+    })
+    × (imageAfter code whole s ≡ imageAfter code second mid)
+    × (journalAfter code whole s ≡ journalAfter code second mid))
 
 -- ---- station sheets
 

@@ -19,7 +19,7 @@ use Rattle.record.specs.Layout.{dataSize}
 use Rattle.explain.specs.Explanations.{Explained, explainOf}
 use Rattle.cards.specs.declared.CardCheck.{CardCheck}
 use Rattle.cards.specs.Checking.{cardedOf}
-use Rattle.pass.specs.Pass.{After, afterPass}
+use Rattle.pass.specs.Pass.{Pass, State, After, afterPass}
 use Rattle.sheet.specs.declared.SheetAnswer.{SheetAnswer}
 use Rattle.sheet.specs.declared.Limit.the-variants.{Ceiling, Band, Open}
 use Rattle.sheet.specs.Sheets.{asked, sheetOf}
@@ -29,7 +29,7 @@ use Rattle.desk.specs.declared.ReadWord.{ReadWord}
 
 -- the version of what a caller links: raised by each landing that changes a struct, a size or a meaning
 abbrev pub version : ℕ
-version = 3
+version = 4
 
 abbrev pub checkBitsOf : ℕ → CheckBits
 checkBitsOf k = wantedOf k
@@ -68,9 +68,9 @@ explainedOf code low check limit list = explainOf (openedOf code) (wordWith low 
 abbrev pub cardsOf : Code → ℕ → CardCheck
 cardsOf code b = cardedOf (openedOf code) b
 
--- over the run from a up to b: the answer, and image and journal afterwards
-abbrev pub passedOf : Code → List ℕ → ℕ → ℕ → List ℕ → After
-passedOf code image a b journal = afterPass (openedOf code) dataSize image a b journal
+-- over a run, with a stamp, of an image, into a journal behind its entries in use: the answer, and image and journal afterwards
+abbrev pub passedOf : Code → Pass → State → After
+passedOf code p s = afterPass (openedOf code) dataSize p s
 
 -- a station's sheet: a function for each kind of limit
 abbrev pub ceilingSheet : Float → ℕ → ℕ → ℕ → Float → SheetAnswer

@@ -1,5 +1,6 @@
 // What a caller outside links: one function for each question, total, each answer a struct by value.
 ghost use mathlib.Core.Path.{_≡_};
+ghost use Rattle.pass.specs.Pass.{passOver, stateOf};
 ghost use Rattle.desk.specs.Answers.{version, checkBitsOf, judgementOf, rowsOf, writtenOf, readOf, explainedOf, cardsOf, passedOf};
 ghost use Rattle.desk.specs.Answers.{ceilingSheet, bandSheet, openSheet};
 ghost use Rattle.desk.specs.Answers.{madeOf};
@@ -18,7 +19,7 @@ use word::CheckWord;
 use word::Word;
 
 // The version of what a caller links: raised by each landing that changes a struct, a size or a meaning.
-const VERSION: usize = 3;
+const VERSION: usize = 4;
 
 #[no_mangle]
 pub extern "C" fn desk_version() -> usize
@@ -119,7 +120,8 @@ pub extern "C" fn desk_cards(code: Code, b: usize) -> CardCheck
     cards::card_check(code::open_code(code), b)
 }
 
-// A pass over the records of an image from `start` up to `end`: the tally, all zero where it is refused.
+// A pass with a stamp over the records of an image from `start` up to `end`, with `used` entries of the journal in use: the count in use
+// afterwards and the tally, all zero where it is refused.
 #[no_mangle]
 pub extern "C" fn desk_pass(
     code: Code,
@@ -127,12 +129,25 @@ pub extern "C" fn desk_pass(
     start: usize,
     end: usize,
     journal: &mut [u8],
+    used: usize,
+    stamp: u32,
 ) -> PassAnswer
-    ensures { λ a. ⌜ a ≡ passedOf code (now (image .entry)) start end (now (journal .entry)) .answer ⌝ }
-    ensures { λ _. ⌜ now (image .exit) ≡ passedOf code (now (image .entry)) start end (now (journal .entry)) .image ⌝ }
-    ensures { λ _. ⌜ now (journal .exit) ≡ passedOf code (now (image .entry)) start end (now (journal .entry)) .journal ⌝ }
+    ensures { λ a. ⌜ a ≡ passedOf code (passOver start end stamp) (stateOf (now (image .entry)) (now (journal .entry)) used) .answer ⌝ }
+    ensures { λ _. ⌜ now (image .exit)
+        ≡ passedOf code (passOver start end stamp) (stateOf (now (image .entry)) (now (journal .entry)) used) .image ⌝ }
+    ensures { λ _. ⌜ now (journal .exit)
+        ≡ passedOf code (passOver start end stamp) (stateOf (now (image .entry)) (now (journal .entry)) used) .journal ⌝ }
 {
-    pass::pass(code::open_code(code), DATA, image, start, end, journal)
+    pass::pass(
+        code::open_code(code),
+        DATA,
+        image,
+        start,
+        end,
+        journal,
+        used,
+        stamp,
+    )
 }
 
 // A station's sheet, judged against a ceiling: the number, yes or no, and the three figures.

@@ -1,7 +1,7 @@
 -- THE PROOFS of the program's promises. Assumes nothing.
-use mathlib.Core.Path.{_≡_, sym, ap}
-use Rattle.record.specs.Layout.{dataSize, Entry}
-use Rattle.runs.proofs.Entries.{entry-back}
+use mathlib.Core.Path.{_≡_, sym}
+use Rattle.record.specs.Layout.{dataSize}
+use Rattle.runs.proofs.Entries.{head-said}
 use Rattle.report.specs.Text.{entryLine, lineOf}
 use Rattle.report.proofs.Decimal.{decimal-says}
 use Rattle.mend.specs.Promises as promises
@@ -12,7 +12,7 @@ run-by-run image b c h g = (text-next image b c h g, sym (totals-next image b c 
 
 pub lines-say : promises.LinesSay
 unfolding lineOf
-lines-say e h b a = ap (λ (x : Entry). entryLine (x .number) (x .verdict) (x .place)) (entry-back dataSize e h b a)
+lines-say e h b a = let said = head-said dataSize e h in λ i. entryLine (said .0 i) (said .1 i) (said .2 i)
 
 pub digits-say : promises.DigitsSay
 digits-say = decimal-says

@@ -1,6 +1,6 @@
 -- A run that is ready is passed over, and what is done run by run is what is done of the whole image. Assumes nothing.
 use mathlib.Core.Path.{_≡_, refl, sym, ap, _∙_}
-use mathlib.Core.Logic.{⊎-elim}
+use mathlib.Core.Logic.{inl, ⊎-elim}
 use mathlib.Core.List.{List, _++_}
 use Prim.Native.Nat.{ℕ, _+_, _*_, _-_, _≤_, _<_}
 use native.Mathlib.Omega.{arith}
@@ -8,12 +8,12 @@ use lib.ListN.{length, take, drop}
 use lib.Seq.{take-at}
 use lib.Count.{ones, onesIn}
 use Rattle.columns.specs.Mix.{placeIn}
-use Rattle.record.specs.declared.Tally.{Tally}
-use Rattle.record.specs.Layout.{dataSize, recordSize, entrySize}
+use Rattle.record.specs.Layout.{dataSize, recordSize, entrySize, inBytes}
 use Rattle.record.specs.Run.{gather, addUp, over, fromRecord}
 use Rattle.record.specs.Tally.{oneIf}
 use Rattle.record.specs.Journal.{noted}
 use Rattle.runs.proofs.Tallies.{count-le}
+use Rattle.runs.proofs.Entries.{in-bytes-append}
 use Rattle.runs.proofs.Image as runs
 use Rattle.code.specs.declared.Opened.{Opened}
 use Rattle.code.specs.declared.Standing.the-variants as standing
@@ -24,15 +24,15 @@ use Rattle.code.proofs.Laid.{refused-no-acceptance}
 use Rattle.pass.specs.declared.PassAnswer.{PassAnswer}
 use Rattle.at_record.specs.Outcome.{verdictOf, leftOf, entryOf}
 use Rattle.over_run.specs.Whole.{recordsIn}
-use Rattle.pass.specs.Pass.{After, entriesRun, neededRun, countRun, roomIn, afterPass}
-use Rattle.pass.specs.Asked.{Image, Run}
+use Rattle.pass.specs.Pass.{Pass, State, After, passOver, stateOf, notedRun, neededRun, countRun, roomIn, afterPass}
+use Rattle.pass.specs.Asked.{Image}
 use Rattle.pass.proofs.Cases.{doneWith}
 use Rattle.pass.proofs.Answers.{answer-12, answer-done}
 use Rattle.at_record.proofs.Outcomes.{length-leftOf}
-use Rattle.passes.proofs.Facts.{length-entriesRun, five-counts, six-counts}
+use Rattle.passes.proofs.Facts.{length-notedRun, five-counts, six-counts}
 use Rattle.passes.proofs.Rows.{Row, row-of, done-asked}
 use Rattle.report.specs.Text.{journalText}
-use Rattle.report.specs.Totals.{noTotals, addedTo, entriesIn, totalLimit, Within}
+use Rattle.report.specs.Totals.{noTotals, addedTo, totalLimit, Within}
 use Rattle.report.proofs.Lines.{journal-append}
 use Rattle.mend.specs.Mend.{sampleReader, runTally, runLeft, runText, Ready, asTotals}
 
@@ -44,30 +44,48 @@ sample-accepted = refl
 fits : (image : List ℕ) (b : ℕ) → b ≤ recordsIn dataSize image → b * recordSize dataSize ≤ length image
 fits image b h = omega arith
 
+-- what the program tells a pass, and what that works on: stamp 0, and no entry in use
+abbrev pub over-run : ℕ → ℕ → Pass
+over-run a b = passOver a b 0
+
+abbrev pub held : List ℕ → List ℕ → State
+held image journal = stateOf image journal 0
+
 -- ---- a pass over no record tells whether the image is refused
 
 module _ (opened : Opened) (image journal : List ℕ) (answer : PassAnswer) (is : opened ≡ openedOf sampleCode)
-    (e : answer ≡ afterPass opened dataSize image 0 0 journal .answer) where
-  sampled : answer ≡ afterPass (openedOf sampleCode) dataSize image 0 0 journal .answer
-  sampled = e ∙ ap (λ o. afterPass o dataSize image 0 0 journal .answer) is
+    (e : answer ≡ afterPass opened dataSize (over-run 0 0) (held image journal) .answer) where
+  abbrev o : Opened
+  o = openedOf sampleCode
+
+  abbrev p : Pass
+  p = over-run 0 0
+
+  abbrev s : State
+  s = held image journal
+
+  sampled : answer ≡ afterPass o dataSize p s .answer
+  sampled = e ∙ ap (λ x. afterPass x dataSize p s .answer) is
 
   pub taken-image : answer .number ≡ 0 → Image dataSize image
-  taken-image z = done-asked (openedOf sampleCode) dataSize image 0 0 journal sample-accepted (sym (ap (λ x. x .number) sampled) ∙ z) .0
+  taken-image z = done-asked o dataSize p s sample-accepted (sym (ap (λ x. x .number) sampled) ∙ z) .0 .records
 
   -- and where it is, the number is 12
   pub refused-by-12 : ¬ (answer .number ≡ 0) → answer .number ≡ 12
   unfolding addUp
-  refused-by-12 n = go (row-of (openedOf sampleCode) dataSize image 0 0 journal)
+  refused-by-12 n = go (row-of o dataSize p s)
     where
-      told : (x : After) → afterPass (openedOf sampleCode) dataSize image 0 0 journal ≡ x → answer .number ≡ x .answer .number
+      told : (x : After) → afterPass o dataSize p s ≡ x → answer .number ≡ x .answer .number
       told x g = ap (λ y. y .number) sampled ∙ ap (λ y. y .answer .number) g
 
-      go : Row (openedOf sampleCode) dataSize image 0 0 journal → answer .number ≡ 12
+      go : Row o dataSize p s → answer .number ≡ 12
       go (Row.closed g f) = absurd (refused-no-acceptance (sym f ∙ sample-accepted))
-      go (Row.no-image f h) = told _ (answer-12 (openedOf sampleCode) dataSize image 0 0 journal f h)
+      go (Row.no-image f h) = told _ (answer-12 o dataSize p s f h)
       go (Row.no-run f i h) = ⊎-elim (λ (x : 0 < 0). absurd (omega arith)) (λ (x : recordsIn dataSize image < 0). absurd (omega arith)) h
-      go (Row.no-room f i r h) = absurd (omega arith)
-      go (Row.done f i r h) = absurd (n (told _ (answer-done (openedOf sampleCode) dataSize image 0 0 journal f i r h)))
+      go (Row.too-many f i r h) = absurd (omega arith)
+      go (Row.goes-back f i r m h) = absurd (omega (arith, h .some))
+      go (Row.no-room f q h) = absurd (omega arith)
+      go (Row.done f q h) = absurd (n (told _ (answer-done o dataSize p s f q h)))
 
 -- ---- one run
 
@@ -75,54 +93,59 @@ module _ (image : List ℕ) (a b : ℕ) (journal lines : List ℕ) (h : Ready im
   within : b * recordSize dataSize ≤ length image
   within = fits image b (h .run .within)
 
-  needed-fits : neededRun sampleReader image a b ≤ roomIn dataSize journal
-  needed-fits =
+  -- the entries that it needs
+  abbrev needed : ℕ
+  needed = neededRun sampleReader image a b
+
+  few : needed ≤ b - a
+  few =
       omega (
         arith,
         five-counts sampleReader image a b (h .run .rising) within,
         six-counts sampleReader image a b (h .run .rising) within,
-        h .room,
       )
 
-  pub run-done : afterPass (openedOf sampleCode) dataSize image a b journal ≡ doneWith sampleReader image a b journal
-  run-done = answer-done (openedOf sampleCode) dataSize image a b journal sample-accepted (h .records) (h .run) needed-fits
+  pub run-done : afterPass (openedOf sampleCode) dataSize (over-run a b) (held image journal)
+      ≡ doneWith sampleReader (over-run a b) (held image journal)
+  run-done =
+      answer-done (openedOf sampleCode) dataSize (over-run a b) (held image journal) sample-accepted
+      (record { records = h .records; run = h .run; counted = omega arith; goes-on = inl refl }) (omega (arith, few, h .room))
 
   -- what the pass answers and leaves behind
   pub outcome : (opened : Opened) (answer : PassAnswer) (after later : List ℕ) → opened ≡ openedOf sampleCode
-      → (answer ≡ afterPass opened dataSize image a b journal .answer)
-      × ((after ≡ afterPass opened dataSize image a b journal .image) × (later ≡ afterPass opened dataSize image a b journal .journal))
+      → let x = afterPass opened dataSize (over-run a b) (held image journal) in
+      (answer ≡ x .answer) × ((after ≡ x .image) × (later ≡ x .journal))
       → (answer .tally ≡ runTally image a b)
+      × (answer .used ≡ needed)
       × (after ≡ runLeft image a b)
-      × (later ≡ over (entriesRun sampleReader image a b) journal)
+      × (later ≡ over (inBytes (notedRun sampleReader 0 image a b)) journal)
   unfolding runTally runLeft
   outcome opened answer after later s p =
-      let e = ap (λ o. afterPass o dataSize image a b journal) s ∙ run-done in
-      (ap (λ x. x .tally) (p .0 ∙ ap (λ x. x .answer) e), p .1 .0 ∙ ap (λ x. x .image) e, p .1 .1 ∙ ap (λ x. x .journal) e)
+      let e = ap (λ o. afterPass o dataSize (over-run a b) (held image journal)) s ∙ run-done in (
+        ap (λ x. x .tally) (p .0 ∙ ap (λ x. x .answer) e),
+        ap (λ x. x .used) (p .0 ∙ ap (λ x. x .answer) e) ∙ omega arith,
+        p .1 .0 ∙ ap (λ x. x .image) e,
+        p .1 .1 ∙ ap (λ x. x .journal) e,
+      )
 
   -- the part of the journal that the entries take, and its lines
-  module _ (t : Tally) (e : t ≡ runTally image a b) where
-    used : length (entriesRun sampleReader image a b) ≡ entrySize dataSize * entriesIn t
-    unfolding runTally
-    used =
-        length-entriesRun sampleReader image a b (h .run .rising) within
-        ∙ rw e (ap (λ (n : ℕ). entrySize dataSize * n) (five-counts sampleReader image a b (h .run .rising) within))
+  used-bytes : length (inBytes (notedRun sampleReader 0 image a b)) ≡ entrySize dataSize * needed
+  used-bytes = length-notedRun sampleReader image a b (h .run .rising) within 0
 
-    pub few-entries : entriesIn t ≤ roomIn dataSize journal
-    few-entries = omega (arith, used, length-entriesRun sampleReader image a b (h .run .rising) within, needed-fits)
+  pub few-entries : needed ≤ roomIn dataSize journal
+  few-entries = omega (arith, few, h .room)
 
-    -- no more than an image has records
-    pub few-records : entriesIn t ≤ 65535
-    unfolding runTally
-    few-records =
-        rw e (omega (arith, six-counts sampleReader image a b (h .run .rising) within, h .run .within, h .records .short))
+  -- no more than an image has records
+  pub few-records : needed ≤ 65535
+  few-records = omega (arith, few, h .run .within, h .records .short)
 
-    pub run-text : (after : List ℕ) → after ≡ over (entriesRun sampleReader image a b) journal
-        → journalText (take (entrySize dataSize * entriesIn t) after) ≡ runText image a b
-    unfolding runText
-    run-text after g =
-        let es : List ℕ = entriesRun sampleReader image a b in
-        let n = entrySize dataSize * entriesIn t in
-        ap journalText (ap (take n) g ∙ take-at es (drop (length es) journal) n used)
+  pub run-text : (after : List ℕ) → after ≡ over (inBytes (notedRun sampleReader 0 image a b)) journal
+      → journalText (take (entrySize dataSize * needed) after) ≡ runText image a b
+  unfolding runText
+  run-text after g =
+      let es : List ℕ = inBytes (notedRun sampleReader 0 image a b) in
+      let n = entrySize dataSize * needed in
+      ap journalText (ap (take n) g ∙ take-at es (drop (length es) journal) n used-bytes)
 
 -- ---- run by run
 
@@ -184,8 +207,12 @@ module _ (image : List ℕ) (b c : ℕ) (h : b ≤ c) (g : c ≤ recordsIn dataS
   pub text-next : runText image 0 c ≡ runText image 0 b ++ runText (runLeft image 0 b) b c
   unfolding runText
   text-next =
-      let note = noted (verdictOf sampleReader) (entryOf sampleReader) in
-      ap journalText (runs.gather-split (recordSize dataSize) image 0 b c (omega arith) h note)
-      ∙ journal-append (entriesRun sampleReader image 0 b) (entriesRun sampleReader image b c) (neededRun sampleReader image 0 b)
-      (length-entriesRun sampleReader image 0 b (omega arith) (fits image b (omega arith)))
-      ∙ ap (λ (l : List ℕ). runText image 0 b ++ journalText (gather (recordSize dataSize) (λ i. note (b + i)) l (c - b))) (sym rest-stays)
+      let note = noted (verdictOf sampleReader) (entryOf sampleReader 0) in
+      let first = notedRun sampleReader 0 image 0 b in
+      let rest = notedRun sampleReader 0 image b c in
+      ap (λ l. journalText (inBytes l)) (runs.gather-split (recordSize dataSize) image 0 b c (omega arith) h note)
+      ∙ ap journalText (in-bytes-append first rest)
+      ∙ journal-append (inBytes first) (inBytes rest) (neededRun sampleReader image 0 b)
+      (length-notedRun sampleReader image 0 b (omega arith) (fits image b (omega arith)) 0)
+      ∙ ap (λ (l : List ℕ). runText image 0 b ++ journalText (inBytes (gather (recordSize dataSize) (λ i. note (b + i)) l (c - b))))
+      (sym rest-stays)

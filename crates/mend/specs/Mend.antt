@@ -3,11 +3,11 @@ use mathlib.Core.List.{List}
 use Prim.Native.Nat.{ℕ, _*_, _/_, _-_, _≤_}
 use lib.ListN.{length}
 use Rattle.record.specs.declared.Tally.{Tally}
-use Rattle.record.specs.Layout.{dataSize, entrySize}
+use Rattle.record.specs.Layout.{dataSize, entrySize, inBytes}
 use Rattle.code.specs.Opened.{openedOf}
 use Rattle.code.specs.Sample.{sampleCode}
 use Rattle.at_record.specs.Outcome.{Reader}
-use Rattle.pass.specs.Pass.{readerOf, leftRun, entriesRun, tallyRun, roomIn}
+use Rattle.pass.specs.Pass.{readerOf, leftRun, notedRun, tallyRun, roomIn}
 use Rattle.pass.specs.Asked.{Image, Run}
 use Rattle.report.specs.declared.Totals.{Totals}
 use Rattle.report.specs.Text.{lineSize, journalText}
@@ -16,7 +16,7 @@ use Rattle.report.specs.Text.{lineSize, journalText}
 abbrev pub sampleReader : Reader
 sampleReader = readerOf (openedOf sampleCode) dataSize
 
--- ---- the run from the record a up to b: its tally, the image afterwards, the lines of its entries
+-- ---- the run from the record a up to b: its tally, the image afterwards, the lines of its entries, whose stamp is 0
 
 unfoldable pub runTally : List ℕ → ℕ → ℕ → Tally
 runTally image a b = tallyRun sampleReader image a b
@@ -25,7 +25,7 @@ unfoldable pub runLeft : List ℕ → ℕ → ℕ → List ℕ
 runLeft image a b = leftRun sampleReader image a b
 
 unfoldable pub runText : List ℕ → ℕ → ℕ → List ℕ
-runText image a b = journalText (entriesRun sampleReader image a b)
+runText image a b = journalText (inBytes (notedRun sampleReader 0 image a b))
 
 -- the most records of a run, so that no buffer passes 64 KiB
 abbrev pub runSize : ℕ

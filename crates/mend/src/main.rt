@@ -51,7 +51,7 @@ fn sample_code() -> Code
     }
 }
 
-// A pass over a run, whose entries are printed.
+// A pass over a run, whose entries are printed; its stamp is 0, and the journal is empty before it.
 fn mend_run(
     image: &mut [u8],
     start: usize,
@@ -65,12 +65,11 @@ fn mend_run(
     ensures { λ _. ⌜ now (lines .exit) ≡ over (runText (now (image .entry)) start end) (now (lines .entry)) ⌝ }
 {
     let opened = code::open_code(sample_code());
-    let answer = pass::pass(opened, DATA, image, start, end, journal);
-    let tally = answer.tally;
-    let used = ENTRY * report::entries_in(tally);
+    let answer = pass::pass(opened, DATA, image, start, end, journal, 0, 0);
+    let used = ENTRY * answer.used;
     let size = report::journal_text(&journal[..used], lines);
     io::write_all(libc::STDOUT_FILENO, &lines[..size]);
-    tally
+    answer.tally
 }
 
 // The end of the run that begins at `start`.
@@ -123,7 +122,7 @@ fn mend_image(image: &mut [u8]) {
     let mut journal = [0u8; JOURNAL];
     let mut lines = [0u8; LINES];
     let opened = code::open_code(sample_code());
-    let answer = pass::pass(opened, DATA, image, 0, 0, &mut journal);
+    let answer = pass::pass(opened, DATA, image, 0, 0, &mut journal, 0, 0);
     let number = answer.number;
     if number != 0 {
         print_refusal(number);

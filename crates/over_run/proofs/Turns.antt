@@ -8,7 +8,7 @@ use native.Mathlib.Nat.{suc-mul, mul-suc, mul-add, mul-one, mul-le-mul-left}
 use native.Mathlib.Omega.{arith}
 use borrow.Rule.Slice.PartMut.{putMid}
 use lib.ListN.{length, take, drop}
-use Rattle.record.specs.Layout.{recordSize, entrySize, entryBytes}
+use Rattle.record.specs.Layout.{recordSize, entrySize, Entry, entryBytes, inBytes}
 use Rattle.record.specs.Run.{recordAt, gather, over}
 use Rattle.record.specs.Journal.{unclean, neededOf, entriesOf}
 use Rattle.runs.proofs.Run.{record-length, record-next, record-kept, gather-write, sum-mono, length-left}
@@ -28,8 +28,8 @@ entries-rise size verdict run i j h v =
 abbrev pub leftTo : Reader → List ℕ → ℕ → List ℕ
 leftTo f run i = gather (recordSize (f .d)) (λ j. leftOf f) run i
 
-abbrev pub entriesTo : Reader → ℕ → List ℕ → ℕ → List ℕ
-entriesTo f first run i = entriesOf (recordSize (f .d)) (verdictOf f) (entryOf f) first run i
+abbrev pub entriesTo : Reader → ℕ → ℕ → List ℕ → ℕ → List Entry
+entriesTo f stamp first run i = entriesOf (recordSize (f .d)) (verdictOf f) (entryOf f stamp) first run i
 
 abbrev pub countTo : Reader → List ℕ → ℕ → ℕ
 countTo f run i = neededOf (recordSize (f .d)) (verdictOf f) run i
@@ -69,16 +69,18 @@ module _ (f : Reader) (run : List ℕ) where
     left-clean now e v = e ∙ sym (record-kept size (λ j. leftOf f) (λ j. length-leftOf f) run i fits (clean-kept f rec v))
 
     -- its entry is written behind those before it
-    pub entries-next : (first : ℕ) (journal now ys : List ℕ) (used n : ℕ) (v : Verdict) (bytes : List ℕ) → verdictOf f rec ≢ 0
-        → now ≡ over (entriesTo f first run i) journal → used ≡ entrySize (f .d) * countTo f run i → n ≡ entrySize (f .d)
-        → v ≡ seen f rec → bytes ≡ rec → ys ≡ entryBytes (entryBy (f .d) (f .k) (first + i) v bytes)
-        → putMid used n now ys ≡ over (entriesTo f first run (i + 1)) journal
+    pub entries-next : (stamp first : ℕ) (journal now ys : List ℕ) (used n : ℕ) (v : Verdict) (bytes : List ℕ) → verdictOf f rec ≢ 0
+        → now ≡ over (inBytes (entriesTo f stamp first run i)) journal → used ≡ entrySize (f .d) * countTo f run i
+        → n ≡ entrySize (f .d)
+        → v ≡ seen f rec → bytes ≡ rec → ys ≡ entryBytes (entryBy (f .d) (f .k) stamp (first + i) v bytes)
+        → putMid used n now ys ≡ over (inBytes (entriesTo f stamp first run (i + 1))) journal
     unfolding entryOf
-    entries-next first journal now ys used n v bytes w e u m s h g =
-        let same : ys ≡ entryOf f (first + i) rec = g ∙ ap₂ (λ x l. entryBytes (entryBy (f .d) (f .k) (first + i) x l)) s h in
-        entries-write size (verdictOf f) run i (entryOf f) first journal now ys used n w e
-        (length-entries size (verdictOf f) (entryOf f) (entrySize (f .d)) (length-entryOf f) first run i fits-before ∙ sym u)
-        same (ap length same ∙ length-entryOf f (first + i) rec size-at ∙ sym m)
+    entries-next stamp first journal now ys used n v bytes w e u m s h g =
+        let same : ys ≡ entryBytes (entryOf f stamp (first + i) rec) =
+        g ∙ ap₂ (λ x l. entryBytes (entryBy (f .d) (f .k) stamp (first + i) x l)) s h in
+        entries-write size (verdictOf f) run i (entryOf f stamp) first journal now ys used n w e
+        (length-entries size (verdictOf f) (entryOf f stamp) first run (entrySize (f .d)) (length-entryOf f stamp) i fits-before ∙ sym u)
+        same (ap length same ∙ length-entryOf f stamp (first + i) rec size-at ∙ sym m)
 
     -- there is room for it, and then for the next
     pub entry-room : (journal : List ℕ) (used : ℕ) → entrySize (f .d) * neededBy f run ≤ length journal → i < recordsIn (f .d) run

@@ -5,7 +5,7 @@ use mathlib.Core.List.{List}
 use Prim.Native.Nat.{ℕ, _+_, _*_, _/_, _%_, _≤_}
 use lib.ListN.{length}
 use Rattle.record.specs.declared.Tally.{Tally}
-use Rattle.record.specs.Layout.{recordSize, entrySize, imageLimit}
+use Rattle.record.specs.Layout.{recordSize, entrySize, imageLimit, Entry}
 use Rattle.record.specs.Run.{gather}
 use Rattle.record.specs.Tally.{tallyOf}
 use Rattle.record.specs.Journal.{neededOf, entriesOf}
@@ -14,7 +14,8 @@ use Rattle.at_record.specs.Outcome.{Reader, Ready, verdictOf, leftOf, entryOf}
 abbrev pub recordsIn : ℕ → List ℕ → ℕ
 recordsIn d bytes = length bytes / recordSize d
 
--- how many entries they need; their tally; what is left of them; their entries, where the first record has the number `first`
+-- how many entries they need; their tally; what is left of them; their entries, with the pass's stamp, where the first record has the
+-- number `first`
 abbrev pub neededBy : Reader → List ℕ → ℕ
 neededBy f run = neededOf (recordSize (f .d)) (verdictOf f) run (recordsIn (f .d) run)
 
@@ -24,8 +25,8 @@ tallyIn f run = tallyOf (recordSize (f .d)) (verdictOf f) run (recordsIn (f .d) 
 abbrev pub leftIn : Reader → List ℕ → List ℕ
 leftIn f run = gather (recordSize (f .d)) (λ i. leftOf f) run (recordsIn (f .d) run)
 
-abbrev pub entriesBy : Reader → ℕ → List ℕ → List ℕ
-entriesBy f first run = entriesOf (recordSize (f .d)) (verdictOf f) (entryOf f) first run (recordsIn (f .d) run)
+abbrev pub entriesBy : Reader → ℕ → ℕ → List ℕ → List Entry
+entriesBy f stamp first run = entriesOf (recordSize (f .d)) (verdictOf f) (entryOf f stamp) first run (recordsIn (f .d) run)
 
 -- records and nothing else, numbered within an image, and a journal with room for their entries
 pub record RunFits (f : Reader) (run : List ℕ) (first : ℕ) (journal : List ℕ) : Type 0 where

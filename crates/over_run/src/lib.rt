@@ -1,5 +1,6 @@
 // A run of records that is lent alone: the entries that it needs, and the pass over its records.
 ghost use mathlib.Core.Path.{_≡_};
+ghost use Rattle.record.specs.Layout.{inBytes};
 ghost use Rattle.record.specs.Run.{over};
 ghost use Rattle.at_record.specs.Outcome.{reader, Ready};
 ghost use Rattle.over_run.specs.Whole.{neededBy, tallyIn, leftIn, entriesBy, RunFits};
@@ -28,7 +29,7 @@ pub fn needed(columns: &[u16], k: usize, rows: u16, d: usize, run: &[u8]) -> usi
     count
 }
 
-// A pass over all records of a run, the first of which has the number `first`.
+// A pass with a stamp over all records of a run, the first of which has the number `first`.
 pub fn pass_run(
     columns: &[u16],
     k: usize,
@@ -37,11 +38,12 @@ pub fn pass_run(
     run: &mut [u8],
     first: usize,
     journal: &mut [u8],
+    stamp: u32,
 ) -> Tally
     requires { ⌜ RunFits (reader (now columns) k rows d) (now run) first (now journal) ⌝ }
     ensures { λ t. ⌜ t ≡ tallyIn (reader (now (columns .entry)) k rows d) (now (run .entry)) ⌝ }
     ensures { λ _. ⌜ now (run .exit) ≡ leftIn (reader (now (columns .entry)) k rows d) (now (run .entry)) ⌝ }
-    ensures { λ _. ⌜ now (journal .exit) ≡ over (entriesBy (reader (now (columns .entry)) k rows d) first (now (run .entry)))
+    ensures { λ _. ⌜ now (journal .exit) ≡ over (inBytes (entriesBy (reader (now (columns .entry)) k rows d) stamp first (now (run .entry))))
         (now (journal .entry)) ⌝ }
 {
     let size = d + CHECK;
@@ -66,6 +68,7 @@ pub fn pass_run(
                 &mut journal[used..to],
                 d,
                 k,
+                stamp,
                 number,
                 verdict,
             );

@@ -1,4 +1,4 @@
--- What may be asked of a pass: rows 12 and 14 of "When the desk says no", over records with d bytes of data. Assumes nothing.
+-- What may be asked of a pass: rows 12, 14, 17 and 16 of "When the desk says no", over records with d bytes of data. Assumes nothing.
 use mathlib.Core.Path.{_≡_}
 use mathlib.Core.Logic.{_≢_, _⊎_}
 use mathlib.Core.List.{List}
@@ -6,6 +6,7 @@ use Prim.Native.Nat.{ℕ, _%_, _≤_, _<_}
 use lib.ListN.{length}
 use Rattle.record.specs.Layout.{recordSize, imageLimit}
 use Rattle.over_run.specs.Whole.{recordsIn}
+use Rattle.pass.specs.Pass.{Pass, State, roomIn, lastStamp}
 
 -- an image: records and nothing else, and not too many of them
 pub record Image (d : ℕ) (image : List ℕ) : Type 0 where
@@ -24,3 +25,19 @@ pub record Run (d : ℕ) (image : List ℕ) (a b : ℕ) : Type 0 where
 -- row 14
 abbrev pub NoRun : ℕ → List ℕ → ℕ → ℕ → Type 0
 NoRun d image a b = (b < a) ⊎ (recordsIn d image < b)
+
+-- row 16: an entry is in use, and the stamp is below the last one's
+pub record GoesBack (d stamp : ℕ) (journal : List ℕ) (used : ℕ) : Type 0 where
+  pub some : 0 < used
+  pub below : stamp < lastStamp d journal used
+
+-- or none is, or the stamp is not
+abbrev pub GoesOn : ℕ → ℕ → List ℕ → ℕ → Type 0
+GoesOn d stamp journal used = (used ≡ 0) ⊎ (lastStamp d journal used ≤ stamp)
+
+-- none of the four
+pub record Askable (d : ℕ) (p : Pass) (s : State) : Type 0 where
+  pub records : Image d (s .image)
+  pub run : Run d (s .image) (p .start) (p .end)
+  pub counted : s .used ≤ roomIn d (s .journal)
+  pub goes-on : GoesOn d (p .stamp) (s .journal) (s .used)

@@ -3,20 +3,20 @@
 use mathlib.Core.Path.{_≡_, sym, ap, _∙_}
 use mathlib.Core.Bool.{Bool, true, false, cond}
 use mathlib.Core.Logic.{_≢_}
-use mathlib.Core.List.{List, _++_}
+use mathlib.Core.List.{List, [], _∷_, _++_, append-assoc}
 use Prim.Native.Nat.{ℕ, zero, suc, _+_, _*_, _-_, _≤_, _<_}
 use native.Mathlib.Decide.{decLt}
 use native.Mathlib.Nat.{mul-comm, suc-mul, not-suc-le-zero}
-use native.Mathlib.Numerals.{add-one}
 use native.Mathlib.Omega.{arith}
-use borrow.Author.Tests.{ne-eqb}
 use lib.Dec.{eqb}
-use lib.ListN.{length, drop}
-use lib.Seq.{drop-at, take-all}
+use lib.ListN.{length, take, drop}
+use lib.Seq.{drop-at, take-at}
+use Rattle.record.specs.Layout.{Entry, entryBytes, inBytes}
 use Rattle.record.specs.Run.{recordAt, gather, addUp}
 use Rattle.record.specs.Journal.{unclean, noted, neededOf, entriesOf}
-use Rattle.runs.proofs.Run.{fits-less, record-length, record-append, sum-step, gather-add, gather-step}
-use Rattle.runs.proofs.Journal.{needed-more, needed-clean, length-entries}
+use Rattle.runs.proofs.Run.{fits-less, record-length, sum-step, gather-add}
+use Rattle.runs.proofs.Entries.{in-bytes-append}
+use Rattle.runs.proofs.Journal.{needed-clean, entries-more, length-entries}
 
 unclean-le : (verdict : List ℕ → ℕ) (rec : List ℕ) → unclean verdict rec ≤ 1
 unfolding unclean
@@ -46,39 +46,30 @@ module _ (size : ℕ) (verdict : List ℕ → ℕ) (run : List ℕ) where
         )
       ]
 
-  module _ (entry : ℕ → List ℕ → List ℕ) (c : ℕ)
-      (each : (n : ℕ) (rec : List ℕ) → length rec ≡ size → length (entry n rec) ≡ c) (first : ℕ) where
-    abbrev entries : ℕ → List ℕ
+  module _ (entry : ℕ → List ℕ → Entry) (c : ℕ)
+      (each : (n : ℕ) (rec : List ℕ) → length rec ≡ size → length (entryBytes (entry n rec)) ≡ c) (first : ℕ) where
+    abbrev entries : ℕ → List Entry
     entries i = entriesOf size verdict entry first run i
 
-    entries-more : (i : ℕ) → verdict (recordAt size run i) ≢ 0 → entries (i + 1) ≡ entries i ++ entry (first + i) (recordAt size run i)
-    unfolding noted
-    entries-more i v = gather-step size (λ j. noted verdict entry (first + j)) run i ∙ simp (ne-eqb _ _ v)
-
-    -- the last entry, and any entry among those that follow it
-    last-entry : (i : ℕ) → suc i * size ≤ length run → verdict (recordAt size run i) ≢ 0
-        → recordAt c (entries (i + 1)) (neededOf size verdict run i) ≡ entry (first + i) (recordAt size run i)
-    last-entry i fits v =
-        let m : ℕ = neededOf size verdict run i in
-        let new : List ℕ = entry (first + i) (recordAt size run i) in
-        let e : length (entries i) ≡ m * c =
-        length-entries size verdict entry c each first run i (omega (arith, suc-mul i size)) ∙ mul-comm c m in
-        let one : length new ≤ c = omega (arith, each (first + i) (recordAt size run i) (record-length size run i fits)) in
-        rw (entries-more i v, drop-at (entries i) new (m * c) e) (take-all c new one)
-
-    -- the entry of the record i
+    -- the entry of the record i, and whatever follows it
     pub entry-at : (k i : ℕ) → k * size ≤ length run → i < k → verdict (recordAt size run i) ≢ 0
-        → recordAt c (entries k) (neededOf size verdict run i) ≡ entry (first + i) (recordAt size run i)
+        → recordAt c (inBytes (entries k)) (neededOf size verdict run i) ≡ entryBytes (entry (first + i) (recordAt size run i))
+    unfolding inBytes
     entry-at k i fits l v =
         let here : suc i * size ≤ length run = fits-less size (length run) k i fits l in
         let e : i + 1 + (k - (i + 1)) ≡ k = omega arith in
         let m : ℕ = neededOf size verdict run i in
-        let long : length (entries (i + 1)) ≡ c * suc m =
-        length-entries size verdict entry c each first run (i + 1) (rw (add-one i) here)
-        ∙ ap (λ n. c * n) (needed-more size verdict run i v ∙ add-one m) in
-        let room : suc m * c ≤ length (entries (i + 1)) = omega (arith, long, mul-comm c (suc m)) in
-        ap (λ n. recordAt c (entries n) m) (sym e)
-        ∙ ap (λ x. recordAt c x m) (gather-add size (λ j. noted verdict entry (first + j)) run (i + 1) (k - (i + 1)))
-        ∙ record-append c (entries (i + 1))
-        (gather size (λ j. noted verdict entry (first + (i + 1 + j))) (drop ((i + 1) * size) run) (k - (i + 1))) m room
-        ∙ last-entry i here v
+        let one : Entry = entry (first + i) (recordAt size run i) in
+        let rest : List Entry = gather size (λ j. noted verdict entry (first + (i + 1 + j))) (drop ((i + 1) * size) run) (k - (i + 1)) in
+        let front : length (inBytes (entries i)) ≡ m * c =
+        length-entries size verdict entry first run c each i (omega (arith, suc-mul i size)) ∙ mul-comm c m in
+        let long : length (entryBytes one) ≡ c = each (first + i) (recordAt size run i) (record-length size run i here) in
+        ap (λ n. recordAt c (inBytes (entries n)) m) (sym e)
+        ∙ ap (λ x. recordAt c (inBytes x) m) (gather-add size (λ j. noted verdict entry (first + j)) run (i + 1) (k - (i + 1)))
+        ∙ ap (λ x. recordAt c (inBytes (x ++ rest)) m) (entries-more size verdict run i entry first v)
+        ∙ ap (λ x. recordAt c x m) (split (entries i) one rest)
+        ∙ ap (take c) (drop-at (inBytes (entries i)) (entryBytes one ++ inBytes rest) (m * c) front)
+        ∙ take-at (entryBytes one) (inBytes rest) c long
+      where
+        split : (es : List Entry) (e : Entry) (fs : List Entry) → inBytes (es ++ (e ∷ []) ++ fs) ≡ inBytes es ++ (entryBytes e ++ inBytes fs)
+        split es e fs = ap inBytes (append-assoc es (e ∷ []) fs) ∙ in-bytes-append es (e ∷ fs)

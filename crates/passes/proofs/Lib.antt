@@ -1,6 +1,9 @@
 pub mod Rows
 pub mod Entries
+pub mod Behind
 pub mod Facts
 pub mod Alike
 pub mod Mended
+pub mod Stamps
 pub mod Twice
+pub mod Applied

@@ -1,13 +1,32 @@
--- Two passes, one after the other: over two runs, and over the same run again. Assumes nothing.
+-- Passes one after the other: the state that a pass leaves, and many; two runs, and the same run again. Assumes nothing.
 use mathlib.Core.Bool.{cond, _||_}
-use mathlib.Core.List.{List}
-use Prim.Native.Nat.{ℕ, _+_, _*_}
+use mathlib.Core.List.{List, [], _∷_}
+use Prim.Native.Nat.{ℕ, _+_}
 use lib.Dec.{eqb}
-use lib.ListN.{drop}
 use Rattle.record.specs.declared.Tally.{Tally}
-use Rattle.record.specs.Layout.{entrySize}
 use Rattle.code.specs.declared.Opened.{Opened}
-use Rattle.pass.specs.Pass.{After, readerOf, neededRun, afterPass}
+use Rattle.pass.specs.Pass.{Pass, State, After, afterPass}
+
+-- ---- the state that passes leave
+
+-- image and journal as they are left, and the count in use: a refused pass leaves it
+abbrev pub stateIn : State → After → State
+stateIn s x =
+    record { image = x .image; journal = x .journal; used = cond (eqb (x .answer .number) 0) (x .answer .used) (s .used) }
+
+abbrev pub stateAfter : Opened → ℕ → Pass → State → State
+stateAfter o d p s = stateIn s (afterPass o d p s)
+
+-- a pass and the opened code that it is under; and such passes in their order, each told the count in use
+pub record Step : Type 0 where
+  pub under : Opened
+  pub pass : Pass
+
+unfoldable pub stepsAfter : ℕ → List Step → State → State
+stepsAfter d [] s = s
+stepsAfter d (x ∷ xs) s = stepsAfter d xs (stateAfter (x .under) d (x .pass) s)
+
+-- ---- tallies
 
 -- the tallies of two runs, added count by count
 abbrev pub added : Tally → Tally → Tally
@@ -20,12 +39,6 @@ added s t =
       odd = s .odd + t .odd;
       stray = s .stray + t .stray;
     }
-
--- after the run from a up to b, the run from b up to c: over the image as that left it, with the journal behind its entries
-abbrev pub thenPass : Opened → ℕ → List ℕ → ℕ → ℕ → ℕ → List ℕ → After
-thenPass o d image a b c journal =
-    afterPass o d (afterPass o d image a b journal .image) b c
-    (drop (entrySize d * neededRun (readerOf o d) image a b) (afterPass o d image a b journal .journal))
 
 -- the verdict that a record has once it was passed over, and the tally that the same run gives again
 abbrev pub verdictAgain : ℕ → ℕ

@@ -6,10 +6,10 @@ use native.Mathlib.Omega.{arith}
 use lib.ListN.{length, getD, take, drop, length-append, length-take}
 use lib.Seq.{drop-at}
 use Rattle.record.specs.Bytes.{numberOf, byteSpan, AllBytes}
-use Rattle.record.specs.Layout.{numberSize, dataSize, entrySize}
+use Rattle.record.specs.Layout.{stampSize, numberSize, dataSize, entrySize}
 use Rattle.record.specs.Run.{recordAt, gather, over}
 use Rattle.record.proofs.Bytes.{number-fits}
-use Rattle.runs.proofs.Numbers.{bytes-take, bytes-part}
+use Rattle.runs.proofs.Numbers.{bytes-part}
 use Rattle.runs.proofs.Run.{record-append, gather-step, gather-add, gather-alike}
 use Rattle.report.specs.declared.Totals.{Totals}
 use Rattle.report.specs.Text.{codes, decimalOf, filled, entryLine, lineOf, journalText, lineSize, tallyText, refusedText, written}
@@ -46,13 +46,13 @@ entry-short n verdict place h v p =
 pub line-short : (entry : List ℕ) → AllBytes entry → length (lineOf entry) ≤ lineSize
 unfolding lineOf byteSpan
 line-short entry h =
-    let few : numberOf (take numberSize entry) < byteSpan 2 =
-    number-fits 2 (take 2 entry) (bytes-take 2 entry h) (simp length-take (omega arith)) in
-    entry-short (numberOf (take numberSize entry)) (getD entry numberSize 0) (getD entry (numberSize + 1) 0)
-    (omega arith) (omega (arith, h numberSize)) (omega (arith, h (numberSize + 1)))
+    let number : List ℕ = take numberSize (drop stampSize entry) in
+    let few : numberOf number < byteSpan 2 = number-fits 2 number (bytes-part stampSize 2 entry h) (simp length-take (omega arith)) in
+    let at : ℕ = stampSize + numberSize in
+    entry-short (numberOf number) (getD entry at 0) (getD entry (at + 1) 0) (omega arith) (omega (arith, h at)) (omega (arith, h (at + 1)))
 
-pub line-is : (entry : List ℕ) (n : ℕ) → n ≡ numberOf (take numberSize entry)
-    → entryLine n (getD entry numberSize 0) (getD entry (numberSize + 1) 0) ≡ lineOf entry
+pub line-is : (entry : List ℕ) (n : ℕ) → n ≡ numberOf (take numberSize (drop stampSize entry))
+    → entryLine n (getD entry (stampSize + numberSize) 0) (getD entry (stampSize + numberSize + 1) 0) ≡ lineOf entry
 unfolding lineOf
 line-is entry n e = rw e
 

@@ -18,10 +18,6 @@ addedTo t run =
       stray = t .stray + run .stray;
     }
 
--- how many entries a run with this tally has
-abbrev pub entriesIn : Tally → ℕ
-entriesIn t = t .«data» + t .check + t .even + t .odd + t .stray
-
 -- far above any sum of runs
 abbrev pub totalLimit : ℕ
 totalLimit = 2 ^ 62

@@ -5,10 +5,12 @@ ghost use lib.ListN.{length};
 ghost use Rattle.record.specs.Layout.{dataSize, entrySize};
 ghost use Rattle.record.specs.Run.{over};
 ghost use Rattle.report.specs.Text.{decimalOf, filled, holesIn, lineOf, journalText, lineSize, tallyText, refusedText, written, Held};
-ghost use Rattle.report.specs.Totals.{noTotals, addedTo, entriesIn, totalLimit, Within};
+ghost use Rattle.report.specs.Totals.{noTotals, addedTo, totalLimit, Within};
 use record::ENTRY;
-use record::NUMBER;
+use record::PLACE;
+use record::STAMP;
 use record::Tally;
+use record::VERDICT;
 
 // The most bytes of an entry's line, of the tally's line and of a refusal.
 pub const LINE: usize = 14;
@@ -19,9 +21,6 @@ pub const REFUSAL: usize = 29;
 
 // Where a number goes in a text.
 const HOLE: u8 = b'#';
-
-// Where an entry says its place: behind its verdict.
-const PLACE: usize = NUMBER + 1;
 
 // ---- each writes its text from the place `at` on, and answers the place after it
 
@@ -70,8 +69,8 @@ fn put_entry_line(out: &mut [u8], at: usize, entry: &[u8]) -> usize
     ensures { λ r. ⌜ r ≡ at + length (lineOf (now (entry .entry))) ⌝ }
     ensures { λ _. ⌜ now (out .exit) ≡ written at (lineOf (now (entry .entry))) (now (out .entry)) ⌝ }
 {
-    let n = record::number(&entry[..NUMBER]) as usize;
-    let verdict = entry[NUMBER] as usize;
+    let n = record::number(&entry[STAMP..VERDICT]) as usize;
+    let verdict = entry[VERDICT] as usize;
     let place = entry[PLACE] as usize;
     put_filled(out, at, b"# # #\n", &[n, verdict, place])
 }
@@ -141,17 +140,6 @@ impl Totals {
             stray: plus(self.stray, run.stray),
         }
     }
-}
-
-// How many entries a run with this tally has.
-pub fn entries_in(run: Tally) -> usize
-    ensures { λ n. ⌜ n ≡ entriesIn run ⌝ }
-{
-    run.data as usize
-        + run.check as usize
-        + run.even as usize
-        + run.odd as usize
-        + run.stray as usize
 }
 
 // The tally's line, from the first byte on; answers how many bytes.

@@ -1,34 +1,51 @@
 -- Laws of a journal entry: how long it is, and from values to bytes and back. Assumes nothing.
 use mathlib.Core.Path.{_≡_, refl, sym, ap, ap₂, _∙_}
-use mathlib.Core.List.{List, [], _∷_, _++_}
+use mathlib.Core.List.{List, [], _∷_, _++_, append-assoc, append-nil}
 use Prim.Native.Nat.{ℕ, suc, _+_, _≤_, _<_}
 use native.Mathlib.Numerals.{add-one}
 use native.Mathlib.Omega.{arith}
 use lib.ListN.{length, getD, take, drop, length-append, length-drop, take-append-drop}
 use lib.Seq.{take-at, drop-at, take-all, take-add, drop-cons, drop-drop, length-take-le}
 use Rattle.record.specs.Bytes.{numberOf, bytesOf, byteSpan, AllBytes}
-use Rattle.record.specs.Layout.{recordSize, numberSize, headSize, entrySize, Entry, headBytes, entryBytes, entryIn}
-use Rattle.runs.proofs.Numbers.{bytes-take, number-bytes, bytes-number}
+use Rattle.record.specs.Layout.{recordSize, stampSize, numberSize, headSize, entrySize, Entry, headBytes, entryBytes, entryIn, inBytes}
+use Rattle.record.proofs.Over.{part-length}
+use Rattle.runs.proofs.Numbers.{bytes-take, bytes-part, number-bytes, bytes-number}
 
-pub length-head : (n v p : ℕ) → length (headBytes n v p) ≡ headSize
+pub length-head : (s n v p : ℕ) → length (headBytes s n v p) ≡ headSize
 unfolding headBytes bytesOf
-length-head n v p = refl
+length-head s n v p = refl
 
 pub length-entry : (e : Entry) → length (entryBytes e) ≡ headSize + (length (e .before) + length (e .after))
 length-entry e = simp (length-append, length-head)
 
+-- ---- entries one behind the other
+
+pub in-bytes-append : (es fs : List Entry) → inBytes (es ++ fs) ≡ inBytes es ++ inBytes fs
+unfolding inBytes
+in-bytes-append [] fs = refl
+in-bytes-append (e ∷ es) fs =
+    ap (λ (l : List ℕ). entryBytes e ++ l) (in-bytes-append es fs) ∙ sym (append-assoc (entryBytes e) (inBytes es) (inBytes fs))
+
+pub in-bytes-one : (e : Entry) → inBytes (e ∷ []) ≡ entryBytes e
+unfolding inBytes
+in-bytes-one e = append-nil (entryBytes e)
+
 -- ---- the entry that an entry's bytes say is it
 
 module _ (e : Entry) where
-  number-first : take numberSize (entryBytes e) ≡ bytesOf numberSize (e .number)
+  stamp-first : take stampSize (entryBytes e) ≡ bytesOf stampSize (e .stamp)
   unfolding headBytes bytesOf
-  number-first = refl
+  stamp-first = refl
 
-  verdict-next : getD (entryBytes e) numberSize 0 ≡ e .verdict
+  number-next : take numberSize (drop stampSize (entryBytes e)) ≡ bytesOf numberSize (e .number)
+  unfolding headBytes bytesOf
+  number-next = refl
+
+  verdict-next : getD (entryBytes e) (stampSize + numberSize) 0 ≡ e .verdict
   unfolding headBytes bytesOf
   verdict-next = refl
 
-  place-next : getD (entryBytes e) (numberSize + 1) 0 ≡ e .place
+  place-next : getD (entryBytes e) (stampSize + numberSize + 1) 0 ≡ e .place
   unfolding headBytes bytesOf
   place-next = refl
 
@@ -40,11 +57,23 @@ module _ (e : Entry) where
   after-behind n b =
       sym (drop-drop n headSize (entryBytes e)) ∙ ap (drop n) records-behind ∙ drop-at (e .before) (e .after) n b
 
-pub entry-back : (d : ℕ) (e : Entry) → e .number < byteSpan numberSize → length (e .before) ≡ recordSize d
-    → length (e .after) ≡ recordSize d → entryIn d (entryBytes e) ≡ e
-entry-back d e n b a =
+-- what its head says, whatever stamp and records are
+pub head-said : (d : ℕ) (e : Entry) → e .number < byteSpan numberSize
+    → (entryIn d (entryBytes e) .number ≡ e .number)
+    × (entryIn d (entryBytes e) .verdict ≡ e .verdict)
+    × (entryIn d (entryBytes e) .place ≡ e .place)
+head-said d e n = (ap numberOf (number-next e) ∙ number-bytes numberSize (e .number) n, verdict-next e, place-next e)
+
+-- and its stamp, as four bytes say it
+pub stamp-said : (d : ℕ) (e : Entry) → entryIn d (entryBytes e) .stamp ≡ numberOf (bytesOf stampSize (e .stamp))
+stamp-said d e = ap numberOf (stamp-first e)
+
+pub entry-back : (d : ℕ) (e : Entry) → e .stamp < byteSpan stampSize → e .number < byteSpan numberSize
+    → length (e .before) ≡ recordSize d → length (e .after) ≡ recordSize d → entryIn d (entryBytes e) ≡ e
+entry-back d e s n b a =
     λ i. record {
-      number = (ap numberOf (number-first e) ∙ number-bytes numberSize (e .number) n) i;
+      stamp = (ap numberOf (stamp-first e) ∙ number-bytes stampSize (e .stamp) s) i;
+      number = (ap numberOf (number-next e) ∙ number-bytes numberSize (e .number) n) i;
       verdict = verdict-next e i;
       place = place-next e i;
       before = (ap (take (recordSize d)) (records-behind e) ∙ take-at (e .before) (e .after) (recordSize d) b) i;
@@ -61,11 +90,25 @@ unfolding headBytes
 entry-read d bytes h e =
     ap₂ (λ (p q : List ℕ). p ++ q) head rest ∙ take-append-drop headSize bytes
   where
-    head : headBytes (numberOf (take numberSize bytes)) (getD bytes numberSize 0) (getD bytes (numberSize + 1) 0) ≡ take headSize bytes
+    stamp : bytesOf stampSize (numberOf (take stampSize bytes)) ≡ take stampSize bytes
+    stamp = bytes-number stampSize (take stampSize bytes) (bytes-take stampSize bytes h) (length-take-le stampSize bytes (omega arith))
+
+    next : List ℕ
+    next = take numberSize (drop stampSize bytes)
+
+    number : bytesOf numberSize (numberOf next) ≡ next
+    number = bytes-number numberSize next (bytes-part stampSize numberSize bytes h) (part-length stampSize numberSize bytes (omega arith))
+
+    marks : List ℕ
+    marks = getD bytes (stampSize + numberSize) 0 ∷ getD bytes (stampSize + numberSize + 1) 0 ∷ []
+
+    head : headBytes (numberOf (take stampSize bytes)) (numberOf next) (getD bytes (stampSize + numberSize) 0)
+        (getD bytes (stampSize + numberSize + 1) 0) ≡ take headSize bytes
     head =
-        ap (λ (l : List ℕ). l ++ (getD bytes numberSize 0 ∷ getD bytes (numberSize + 1) 0 ∷ []))
-        (bytes-number numberSize (take numberSize bytes) (bytes-take numberSize bytes h) (length-take-le numberSize bytes (omega arith)))
-        ∙ two-more bytes numberSize (omega arith)
+        ap₂ (λ (s n : List ℕ). s ++ (n ++ marks)) stamp number
+        ∙ sym (append-assoc (take stampSize bytes) next marks)
+        ∙ ap (λ (l : List ℕ). l ++ marks) (sym (take-add stampSize numberSize bytes))
+        ∙ two-more bytes (stampSize + numberSize) (omega arith)
 
     behind : length (drop (recordSize d) (drop headSize bytes)) ≤ recordSize d
     behind = simp length-drop (omega arith)

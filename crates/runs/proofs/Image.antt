@@ -85,7 +85,7 @@ module _ (size : ℕ) (image : List ℕ) (a b c : ℕ) (h : a ≤ b) (g : b ≤ 
       (sum-add size s (fromRecord size a image) (b - a) (c - b)
       ∙ ap (λ l. sumRun size s image a b + addUp size s l (c - b)) (onward size image a b h))
 
-  pub gather-split : (f : ℕ → List ℕ → List ℕ) → gatherRun size f image a c ≡ gatherRun size f image a b ++ gatherRun size f image b c
+  pub gather-split : {X : Type 0} (f : ℕ → List ℕ → List X) → gatherRun size f image a c ≡ gatherRun size f image a b ++ gatherRun size f image b c
   gather-split f =
       rw both
       (gather-add size (λ i. f (a + i)) (fromRecord size a image) (b - a) (c - b)

@@ -30,6 +30,12 @@ unfolding numberOf bytesOf byteSpan
 number-bytes zero v h = omega arith
 number-bytes (suc n) v h = omega (arith, number-bytes n (v / 256) (omega arith))
 
+-- fewer bytes than a number has say a smaller one
+pub number-least : (n v : ℕ) → numberOf (bytesOf n v) ≤ v
+unfolding numberOf bytesOf
+number-least zero v = omega arith
+number-least (suc n) v = omega (arith, number-least n (v / 256))
+
 pub bytes-number : (n : ℕ) (l : List ℕ) → AllBytes l → length l ≡ n → bytesOf n (numberOf l) ≡ l
 unfolding numberOf bytesOf
 bytes-number n l h e = rw (← e) (go l h)

@@ -81,7 +81,7 @@ sum-take size f n l k h = sum-alike size f f (take n l) l k (λ i b. ap f (recor
 
 -- ---- what is gathered
 
-module _ (size : ℕ) (f : ℕ → List ℕ → List ℕ) (run : List ℕ) where
+module _ {X : Type 0} (size : ℕ) (f : ℕ → List ℕ → List X) (run : List ℕ) where
   pub gather-step : (i : ℕ) → gather size f run (i + 1) ≡ gather size f run i ++ f i (recordAt size run i)
   unfolding gather
   gather-step i = rw (add-one i)
@@ -93,7 +93,7 @@ module _ (size : ℕ) (f : ℕ → List ℕ → List ℕ) (run : List ℕ) where
       rw (add-suc, gather-add j m, record-drop size run j m)
       (append-assoc (gather size f run j) (gather size (λ i. f (j + i)) (drop (j * size) run) m) (f (j + m) (recordAt size run (j + m))))
 
-  -- where f gives c bytes of a record for each that g counts
+  -- where f gives c elements of a record for each that g counts
   pub length-gather : (c : ℕ) (g : List ℕ → ℕ) → ((i : ℕ) (rec : List ℕ) → length rec ≡ size → length (f i rec) ≡ c * g rec)
       → (k : ℕ) → k * size ≤ length run → length (gather size f run k) ≡ c * addUp size g run k
   unfolding gather addUp
@@ -103,19 +103,19 @@ module _ (size : ℕ) (f : ℕ → List ℕ → List ℕ) (run : List ℕ) where
       ∙ ap₂ _+_ (length-gather c g h k (omega (arith, suc-mul k size))) (h k (recordAt size run k) (record-length size run k b))
       ∙ sym (mul-add c (addUp size g run k) (g (recordAt size run k)))
 
-  -- where f gives c bytes of each record
+  -- where f gives c elements of each record
   pub length-each : (c : ℕ) → ((i : ℕ) (rec : List ℕ) → length rec ≡ size → length (f i rec) ≡ c)
       → (k : ℕ) → k * size ≤ length run → length (gather size f run k) ≡ k * c
   length-each c h k b =
       length-gather c (λ rec. 1) (λ i rec e. h i rec e ∙ sym (mul-one c)) k b ∙ ap (λ n. c * n) (sum-ones size run k) ∙ mul-comm c k
 
-pub gather-alike : (size : ℕ) (f g : ℕ → List ℕ → List ℕ) (l m : List ℕ) (k : ℕ)
+pub gather-alike : {X : Type 0} (size : ℕ) (f g : ℕ → List ℕ → List X) (l m : List ℕ) (k : ℕ)
     → ((i : ℕ) → i < k → f i (recordAt size l i) ≡ g i (recordAt size m i)) → gather size f l k ≡ gather size g m k
 unfolding gather
 gather-alike size f g l m zero h = refl
 gather-alike size f g l m (suc k) h = ap₂ (λ p q. p ++ q) (gather-alike size f g l m k (λ i b. h i (omega arith))) (h k (omega arith))
 
-pub gather-take : (size : ℕ) (f : ℕ → List ℕ → List ℕ) (n : ℕ) (l : List ℕ) (k : ℕ) → k * size ≤ n
+pub gather-take : {X : Type 0} (size : ℕ) (f : ℕ → List ℕ → List X) (n : ℕ) (l : List ℕ) (k : ℕ) → k * size ≤ n
     → gather size f (take n l) k ≡ gather size f l k
 gather-take size f n l k h = gather-alike size f f (take n l) l k (λ i b. ap (f i) (record-take size n l i (fits-less size n k i h b)))
 

@@ -3,7 +3,7 @@
 use crate::program;
 use desk::{ffi, Word};
 use second::{Balanced, CardsChecked, Code, Desk, Explained, Judged, Passed, Reading, Refusal, Wanted, Written};
-use second::{Limit, Made, Sheeted, Station};
+use second::{Limit, Made, Pass, Sheeted, Station};
 
 /// The same code for the linked desk.
 fn linked(code: &Code) -> desk::Code {
@@ -69,9 +69,11 @@ impl Desk for Archive {
         CardsChecked { number, told, card, mask }
     }
 
-    fn pass(&self, code: &Code, image: &mut [u8], start: usize, end: usize, journal: &mut [u8]) -> Passed {
-        let ffi::PassAnswer { number, told, tally } = ffi::pass(&linked(code), image, start, end, journal);
-        Passed { number, told, tally: counts(tally) }
+    fn pass(&self, code: &Code, image: &mut [u8], journal: &mut [u8], asked: &Pass) -> Passed {
+        let Pass { start, end, used, stamp } = *asked;
+        let answer = ffi::pass(&linked(code), image, start, end, journal, used, stamp);
+        let ffi::PassAnswer { number, told, used, tally } = answer;
+        Passed { number, told, used, tally: counts(tally) }
     }
 
     fn sheet(&self, asked: &Station) -> Sheeted {
@@ -154,9 +156,12 @@ impl Desk for Wrapper {
         }
     }
 
-    fn pass(&self, code: &Code, image: &mut [u8], start: usize, end: usize, journal: &mut [u8]) -> Passed {
-        let done = |tally| Passed { tally: counts(tally), ..Passed::default() };
-        linked(code).pass(image, start..end, journal).map_or_else(|refusal| refused(refusal).into(), done)
+    fn pass(&self, code: &Code, image: &mut [u8], journal: &mut [u8], asked: &Pass) -> Passed {
+        let Pass { start, end, used, stamp } = *asked;
+        let done =
+            |passed: desk::Passed| Passed { used: passed.used, tally: counts(passed.tally), ..Passed::default() };
+        let answer = linked(code).pass(image, start..end, journal, used, stamp);
+        answer.map_or_else(|refusal| refused(refusal).into(), done)
     }
 
     fn sheet(&self, asked: &Station) -> Sheeted {

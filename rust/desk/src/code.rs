@@ -1,7 +1,7 @@
 //! The questions.
 
 use crate::refusal::Plain;
-use crate::{ffi, Code, Explanation, Reading, Refusal, Tally, Verdict, Word, LONGEST_LIST, NO_PLACE};
+use crate::{ffi, Code, Explanation, Passed, Reading, Refusal, Verdict, Word, LONGEST_LIST, NO_PLACE};
 use std::ops::Range;
 
 /// The answer where the number is 0, else the refusal that these numbers are.
@@ -192,8 +192,9 @@ impl Code {
 
     /// Passes over a run of the image's records, mends those with one flip, and notes each that is not clean.
     ///
-    /// A record has [`RECORD`](crate::RECORD) bytes, an entry of the journal [`ENTRY`](crate::ENTRY). Bytes outside the
-    /// run and past the entries stay, and a refusal writes nothing.
+    /// A record has [`RECORD`](crate::RECORD) bytes, an entry of the journal [`ENTRY`](crate::ENTRY). The journal has
+    /// `used` entries in use, which stay; the new ones stand right behind them, each with the pass's `stamp`. Bytes
+    /// outside the run and past the entries stay, and a refusal writes nothing.
     ///
     /// ```
     /// use desk::{Code, Refusal, ENTRY};
@@ -203,19 +204,56 @@ impl Code {
     /// let mut image = [0xA4, 0, 0, 0, 0, 0, 0, 0, 27, 0, 0xA6, 0, 0, 0, 0, 0, 0, 0, 27, 0];
     ///
     /// // A pass with no journal tells how many entries it needs.
-    /// let refusal = code.pass(&mut image, 0..2, &mut []).unwrap_err();
+    /// let refusal = code.pass(&mut image, 0..2, &mut [], 0, 7).unwrap_err();
     /// assert_eq!(refusal, Refusal::JournalRoom { needed: 2 });
     ///
     /// let mut journal = vec![0; refusal.told() * ENTRY];
-    /// let tally = code.pass(&mut image, 0..2, &mut journal)?;
-    /// assert_eq!((tally.data, tally.even, tally.entries()), (1, 1, 2));
+    /// let passed = code.pass(&mut image, 0..2, &mut journal, 0, 7)?;
+    /// assert_eq!((passed.tally.data, passed.tally.even, passed.used), (1, 1, 2));
     /// assert_eq!(image[0], 0xA5);
-    /// assert_eq!(journal[24..28], [1, 0, 3, 255]);
+    /// assert_eq!(journal[ENTRY..ENTRY + 8], [7, 0, 0, 0, 1, 0, 3, 255]);
     /// # Ok(())
     /// # }
     /// ```
-    pub fn pass(&self, image: &mut [u8], run: Range<usize>, journal: &mut [u8]) -> Result<Tally, Refusal> {
-        let answer = ffi::pass(self, image, run.start, run.end, journal);
-        done(answer.number, answer.told, answer.tally)
+    ///
+    /// Passes follow one another in one journal by the count in use alone: each is told what the one before handed back.
+    ///
+    /// ```
+    /// use desk::{Code, Refusal, ENTRY};
+    ///
+    /// # fn main() -> Result<(), Refusal> {
+    /// let code = Code::new(&[28, 26, 25, 22, 21, 19, 14, 13], 5)?;
+    /// let mut image = [0xA4, 0, 0, 0, 0, 0, 0, 0, 27, 0, 0xA6, 0, 0, 0, 0, 0, 0, 0, 27, 0];
+    /// let mut journal = [0; 3 * ENTRY];
+    ///
+    /// let first = code.pass(&mut image, 0..1, &mut journal, 0, 1_000)?;
+    /// assert_eq!((first.used, first.tally.data), (1, 1));
+    /// let second = code.pass(&mut image, 1..2, &mut journal, first.used, 1_060)?;
+    /// assert_eq!((second.used, second.tally.even), (2, 1));
+    ///
+    /// // Each entry has the stamp of its pass, low byte first; the third has not been written.
+    /// let stamps = journal.chunks(ENTRY).map(|entry| u32::from_le_bytes(entry[..4].try_into().unwrap()));
+    /// assert_eq!(stamps.collect::<Vec<_>>(), [1_000, 1_060, 0]);
+    ///
+    /// // A stamp may be the last one's, and not below it.
+    /// assert_eq!(code.pass(&mut image, 0..1, &mut journal, second.used, 1_059), Err(Refusal::Stamp));
+    /// let third = code.pass(&mut image, 0..1, &mut journal, second.used, 1_060)?;
+    /// assert_eq!((third.used, third.tally.clean), (2, 1));
+    ///
+    /// // No more entries are in use than there is room for.
+    /// assert_eq!(code.pass(&mut image, 0..1, &mut journal, 4, 1_060), Err(Refusal::CountInUse));
+    /// # Ok(())
+    /// # }
+    /// ```
+    pub fn pass(
+        &self,
+        image: &mut [u8],
+        run: Range<usize>,
+        journal: &mut [u8],
+        used: usize,
+        stamp: u32,
+    ) -> Result<Passed, Refusal> {
+        let answer = ffi::pass(self, image, run.start, run.end, journal, used, stamp);
+        done(answer.number, answer.told, Passed { used: answer.used, tally: answer.tally })
     }
 }

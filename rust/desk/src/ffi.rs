@@ -137,6 +137,8 @@ pub struct PassAnswer {
     pub number: usize,
     /// What goes with the number.
     pub told: usize,
+    /// The entries in use after a done pass.
+    pub used: usize,
     /// The counts of the run.
     pub tally: Tally,
 }
@@ -194,6 +196,8 @@ extern "C" {
         end: usize,
         journal: *mut u8,
         journal_length: usize,
+        used: usize,
+        stamp: u32,
     ) -> PassAnswer;
     fn desk_sheet_ceiling(hours: f64, devices: usize, words: usize, mended: usize, high: f64) -> SheetAnswer;
     fn desk_sheet_band(hours: f64, devices: usize, words: usize, mended: usize, low: f64, high: f64) -> SheetAnswer;
@@ -255,9 +259,20 @@ pub fn cards(code: &Code, b: usize) -> CardCheck {
     ask!(desk_cards(*code, b))
 }
 
-/// Mends the records from `start` up to but not `end` and notes each that is not clean; refuses with 12, 14, 13.
-pub fn pass(code: &Code, image: &mut [u8], start: usize, end: usize, journal: &mut [u8]) -> PassAnswer {
-    ask!(desk_pass(*code, image.as_mut_ptr(), image.len(), start, end, journal.as_mut_ptr(), journal.len()))
+/// Mends the records from `start` up to but not `end` and notes each that is not clean, with the stamp, behind the `used`
+/// entries that the journal has in use; refuses with 12, 14, 17, 16, 13.
+pub fn pass(
+    code: &Code,
+    image: &mut [u8],
+    start: usize,
+    end: usize,
+    journal: &mut [u8],
+    used: usize,
+    stamp: u32,
+) -> PassAnswer {
+    let (image, image_length) = (image.as_mut_ptr(), image.len());
+    let (journal, journal_length) = (journal.as_mut_ptr(), journal.len());
+    ask!(desk_pass(*code, image, image_length, start, end, journal, journal_length, used, stamp))
 }
 
 /// The sheet of a station, judged against a ceiling: share ≤ `high`; refuses with 19, as the next two do.

@@ -48,13 +48,15 @@ pub use code::check_bits_wanted;
 pub use ffi::{Code, Sheet, Tally};
 pub use refusal::Refusal;
 pub use sheet::{JudgedSheet, Limit, Station};
+pub use tally::Passed;
 pub use version::VERSION;
 pub use word::{Explanation, Reading, Verdict, Word};
 
 /// Bytes of a record: data in 8, check bits in 2, low byte first.
 pub const RECORD: usize = 10;
-/// Bytes of a journal entry: record number in 2 (low byte first), verdict, place, 10 bytes as read, 10 as left.
-pub const ENTRY: usize = 24;
+/// Bytes of a journal entry: stamp in 4 and record number in 2 (low byte first), verdict, place, 10 bytes as read, 10 as
+/// left.
+pub const ENTRY: usize = 28;
 /// Bytes of the longest image.
 pub const IMAGE: usize = 65_530;
 /// Bytes that hold any list of explanations.

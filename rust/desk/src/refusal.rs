@@ -95,11 +95,16 @@ refusals! {
     12 ImageLength,
         "image length no multiple of 10, or over 65,530", "the image's length is no multiple of 10, or over 65530";
     13 JournalRoom { needed = told "entries needed" },
-        "journal room (its length / 24, down) below the entries needed", "the journal needs room for {needed} entries";
+        "journal room left (its length / 28, down, less the entries in use) below the entries needed",
+        "the journal needs room for {needed} more entries";
     14 Run,
         "run's start above its end, or its end above the number of records", "the run does not lie in the image";
     15 ColumnRoom,
         "making a code: k is over 2^(r-1) - r", "there are fewer than k columns of r rows";
+    16 Stamp,
+        "the pass's stamp is below the last used entry's", "the stamp is below that of the last entry in use";
+    17 CountInUse,
+        "the count of entries in use is over the journal's room", "more entries are in use than the journal has room for";
     19 Sheet,
         "device count 0 or over 65,535, word count 0 or over 65,535, mended above words, hours not finite or not above \
          zero, a limit's figure not finite or below zero, a band upside down",

@@ -1,6 +1,16 @@
-//! What a tally says.
+//! What a done pass hands back, and what its tally says.
 
 use crate::{Tally, Verdict};
+
+/// What a done pass hands back.
+#[derive(Clone, Copy, PartialEq, Eq, Hash, Debug, Default)]
+pub struct Passed {
+    /// The journal's entries in use after the pass: those before it and those that it wrote. The next pass in the same
+    /// journal is told this count.
+    pub used: usize,
+    /// How many records of the run have each verdict.
+    pub tally: Tally,
+}
 
 impl Tally {
     /// How many records of the run have this verdict.

@@ -3,7 +3,7 @@
 mod common;
 
 use common::*;
-use desk::{check_bits_wanted, Code, Explanation, Limit, Refusal, Sheet, Station, Tally, Verdict, Word};
+use desk::{check_bits_wanted, Code, Explanation, Limit, Passed, Refusal, Sheet, Station, Tally, Verdict, Word};
 use desk::{ENTRY, IMAGE, LONGEST_LIST, RECORD};
 
 #[test]
@@ -45,10 +45,10 @@ fn the_journal_has_an_entry_for_each_record_that_the_tally_counts() {
     let words = [(0xA5, 27), (0xA4, 27), (0xA5, 26), (0xA6, 27), (0xA6, 26), (0x100, 0)];
     let mut image: Vec<u8> = words.iter().flat_map(|&(data, check)| record(data, check)).collect();
     let mut journal = [0; 5 * ENTRY];
-    let tally = sample().pass(&mut image, 0..6, &mut journal).unwrap();
-    assert_eq!(tally.entries(), 5);
+    let passed = sample().pass(&mut image, 0..6, &mut journal, 0, 0).unwrap();
+    assert_eq!((passed.used, passed.tally.entries()), (5, 5));
     for (at, entry) in journal.chunks(ENTRY).enumerate() {
-        assert_eq!(Verdict::of(entry[2].into()), Some(Verdict::ALL[at + 1]));
+        assert_eq!(Verdict::of(entry[6].into()), Some(Verdict::ALL[at + 1]));
     }
 }
 
@@ -87,9 +87,9 @@ fn the_longest_list() {
 
 #[test]
 fn the_longest_image() {
-    let done = Tally { clean: 6_553, ..Tally::default() };
-    assert_eq!(sample().pass(&mut [0; IMAGE], 0..IMAGE / RECORD, &mut []), Ok(done));
-    assert_eq!(sample().pass(&mut [0; IMAGE + RECORD], 0..1, &mut []), Err(Refusal::ImageLength));
+    let done = Passed { used: 0, tally: Tally { clean: 6_553, ..Tally::default() } };
+    assert_eq!(sample().pass(&mut [0; IMAGE], 0..IMAGE / RECORD, &mut [], 0, 0), Ok(done));
+    assert_eq!(sample().pass(&mut [0; IMAGE + RECORD], 0..1, &mut [], 0, 0), Err(Refusal::ImageLength));
 }
 
 #[test]

@@ -81,23 +81,37 @@ fn lists_and_cards() {
 #[test]
 fn a_pass() {
     let mut image = every_verdict();
-    let refused = PassAnswer { number: 13, told: 20, tally: Tally::default() };
-    assert_eq!(pass(&sample(), &mut image, 0, 21, &mut []), refused);
+    let refused = PassAnswer { number: 13, told: 20, used: 0, tally: Tally::default() };
+    assert_eq!(pass(&sample(), &mut image, 0, 21, &mut [], 0, 0), refused);
 
-    let mut journal = vec![0xEE; 20 * 24 + 7];
-    let done = PassAnswer { number: 0, told: 0, tally: tally([1, 2, 3, 4, 5, 6]) };
-    assert_eq!(pass(&sample(), &mut image, 0, 21, &mut journal), done);
-    assert_eq!(journal[20 * 24..], [0xEE; 7]);
+    let mut journal = vec![0xEE; 20 * 28 + 7];
+    let done = PassAnswer { number: 0, told: 0, used: 20, tally: tally([1, 2, 3, 4, 5, 6]) };
+    assert_eq!(pass(&sample(), &mut image, 0, 21, &mut journal, 0, 0x0403_0201), done);
+    assert_eq!(journal[19 * 28..19 * 28 + 8], [1, 2, 3, 4, 20, 0, 5, 255]);
+    assert_eq!(journal[20 * 28..], [0xEE; 7]);
 
-    let again = PassAnswer { number: 0, told: 0, tally: tally([6, 0, 0, 4, 5, 6]) };
-    assert_eq!(pass(&sample(), &mut image, 0, 21, &mut journal), again);
+    let again = PassAnswer { number: 0, told: 0, used: 15, tally: tally([6, 0, 0, 4, 5, 6]) };
+    assert_eq!(pass(&sample(), &mut image, 0, 21, &mut journal, 0, 0), again);
+}
+
+#[test]
+fn passes_follow_one_another_in_one_journal() {
+    let (mut image, mut journal) = (every_verdict(), vec![0xEE; 21 * 28 + 5]);
+    let first = PassAnswer { number: 0, told: 0, used: 9, tally: tally([1, 2, 3, 4, 0, 0]) };
+    assert_eq!(pass(&sample(), &mut image, 0, 10, &mut journal, 0, 7), first);
+    let before = journal.clone();
+    let second = PassAnswer { number: 0, told: 0, used: 20, tally: tally([0, 0, 0, 0, 5, 6]) };
+    assert_eq!(pass(&sample(), &mut image, 10, 21, &mut journal, first.used, u32::MAX), second);
+    assert_eq!(journal[..9 * 28], before[..9 * 28]);
+    assert_eq!(journal[9 * 28..9 * 28 + 8], [255, 255, 255, 255, 10, 0, 4, 255]);
+    assert_eq!(journal[20 * 28..], [0xEE; 28 + 5]);
 }
 
 #[test]
 fn bytes_outside_the_run_stay() {
     let before = every_verdict();
     let mut image = before.clone();
-    let answer = pass(&sample(), &mut image, 2, 5, &mut [0; 24 * 3]);
+    let answer = pass(&sample(), &mut image, 2, 5, &mut [0; 28 * 3], 0, 0);
     assert_eq!(answer.tally, tally([0, 1, 2, 0, 0, 0]));
     assert_eq!(image[..20], before[..20]);
     assert_eq!(image[20..50], record(0xA5, 27).repeat(3));
@@ -121,18 +135,25 @@ fn a_refused_list_is_left_as_it_was() {
 
 #[test]
 fn a_refused_image_and_its_journal_are_left_as_they_were() {
-    let stays = |code: Code, length: usize, end: usize, room: usize, number: usize| {
-        let (mut image, mut journal) = (every_verdict(), vec![0xEE; 480]);
-        let answer = pass(&code, &mut image[..length], 0, end, &mut journal[..room]);
-        assert_eq!((answer.number, answer.tally), (number, Tally::default()));
-        assert_eq!((image, journal), (every_verdict(), vec![0xEE; 480]));
+    // Each entry in use has the stamp EEEEEEEE.
+    let stays = |code: Code, length: usize, end: usize, room: usize, used: usize, stamp: u32, number: usize| {
+        let (mut image, mut journal) = (every_verdict(), vec![0xEE; 588]);
+        let answer = pass(&code, &mut image[..length], 0, end, &mut journal[..room], used, stamp);
+        assert_eq!((answer.number, answer.used, answer.tally), (number, 0, Tally::default()));
+        assert_eq!((image, journal), (every_verdict(), vec![0xEE; 588]));
     };
     for number in 1..=6 {
-        stays(refused_by(number), 210, 21, 480, number);
+        stays(refused_by(number), 210, 21, 560, 0, 0, number);
     }
-    stays(sample(), 209, 20, 480, 12);
-    stays(sample(), 210, 21, 479, 13);
-    stays(sample(), 210, 22, 480, 14);
+    stays(sample(), 209, 20, 560, 0, 0, 12);
+    stays(sample(), 210, 22, 560, 0, 0, 14);
+    stays(sample(), 210, 21, 559, 0, 0, 13);
+    stays(sample(), 210, 21, 587, 1, 0xEEEE_EEEE, 13);
+    stays(sample(), 210, 21, 588, 1, 0xEEEE_EEED, 16);
+    stays(sample(), 210, 0, 588, 21, 0, 16);
+    stays(sample(), 210, 21, 588, 22, u32::MAX, 17);
+    stays(sample(), 210, 0, 588, usize::MAX, u32::MAX, 17);
+    stays(sample(), 210, 0, 588, 1 << 32, u32::MAX, 17);
 }
 
 #[test]

@@ -3,12 +3,19 @@
 mod common;
 
 use common::*;
-use desk::{check_bits_wanted, Code, Limit, Refusal, Station, Word};
+use desk::{check_bits_wanted, Code, Limit, Refusal, Station, Word, ENTRY};
 
 /// The sample with this column at place 3.
 fn with_column(column: u16) -> Code {
     let mut code = sample();
     code.columns[3] = column;
+    code
+}
+
+/// The sample with something left at a place past k.
+fn with_leftover(place: usize) -> Code {
+    let mut code = sample();
+    code.columns[place] = 1;
     code
 }
 
@@ -29,12 +36,14 @@ fn all() -> Vec<Refusal> {
         sample().card_check(3).unwrap_err(),
         sample().explain_into(word, 2, &mut [0; 8]).unwrap_err(),
         sample().explain(word, 3).unwrap_err(),
-        sample().pass(&mut image[..19], 0..1, none).unwrap_err(),
-        sample().pass(&mut image, 0..2, none).unwrap_err(),
-        sample().pass(&mut image, 0..3, none).unwrap_err(),
+        sample().pass(&mut image[..19], 0..1, none, 0, 0).unwrap_err(),
+        sample().pass(&mut image, 0..2, none, 0, 0).unwrap_err(),
+        sample().pass(&mut image, 0..3, none, 0, 0).unwrap_err(),
         Code::made(12, 5).unwrap_err(),
+        sample().pass(&mut image, 0..2, &mut [1; 3 * ENTRY], 1, 0x0101_0100).unwrap_err(),
+        sample().pass(&mut image, 0..2, none, 1, 0).unwrap_err(),
         Station { hours: 6.0, devices: 4, words: 8, mended: 9 }.sheet(Limit::Open).unwrap_err(),
-        Code { k: 7, ..sample() }.judge().unwrap_err(),
+        with_leftover(9).judge().unwrap_err(),
     ]
 }
 
@@ -56,16 +65,18 @@ fn every_refusal_has_its_case() {
         Refusal::JournalRoom { needed: 2 },
         Refusal::Run,
         Refusal::ColumnRoom,
+        Refusal::Stamp,
+        Refusal::CountInUse,
         Refusal::Sheet,
-        Refusal::Leftover { place: 7 },
+        Refusal::Leftover { place: 9 },
     ];
     assert_eq!(all(), expected);
 }
 
 #[test]
 fn every_refusal_has_its_number_and_tells_what_the_table_says() {
-    let told = [0, 0, 3, 3, 3, 3, 0, 0, 0, 5, 0, 0, 2, 0, 0, 0, 7];
-    let numbers = (1..=15).chain([19, 21]);
+    let told = [0, 0, 3, 3, 3, 3, 0, 0, 0, 5, 0, 0, 2, 0, 0, 0, 0, 0, 9];
+    let numbers = (1..=17).chain([19, 21]);
     for ((refusal, number), told) in all().into_iter().zip(numbers).zip(told) {
         assert_eq!((refusal.number(), refusal.told()), (number, told));
         assert!(refusal.to_string().starts_with(&format!("refused {}: ", number)));
@@ -84,7 +95,7 @@ fn a_code_is_judged_by_every_question() {
     assert_eq!(code.explain(word, 3), Err(refusal));
     assert_eq!(code.explain_into(word, 3, &mut []), Err(refusal));
     assert_eq!(code.card_check(9), Err(refusal));
-    assert_eq!(code.pass(&mut [0], 0..9, &mut []), Err(refusal));
+    assert_eq!(code.pass(&mut [0], 0..9, &mut [], 1, 0), Err(refusal));
     assert_eq!(Code::new(&code.columns[..8], 5), Err(refusal));
 }
 

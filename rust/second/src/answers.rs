@@ -75,6 +75,8 @@ pub struct CardsChecked {
 pub struct Passed {
     pub number: usize,
     pub told: usize,
+    /// The entries in use after a done pass.
+    pub used: usize,
     /// How many records of the run have verdict 0 to 5.
     pub tally: [usize; 6],
 }

@@ -1,9 +1,10 @@
 //! The comparison: the same cases to every desk, every number and every byte of the answers.
 
 use crate::answers::{Explained, Judged, Passed, Reading, Written};
-use crate::cases::{asked_shapes, edges, Cases, ImageCase, ListCase, HUGE};
+use crate::cases::{asked_shapes, edges, Cases, ImageCase, ListCase, TurnsCase, HUGE};
 use crate::desk::Desk;
 use crate::make::Made;
+use crate::pass::Pass;
 use std::collections::BTreeMap;
 use std::fmt;
 use std::time::{Duration, Instant};
@@ -17,6 +18,8 @@ pub struct Amounts {
     pub lists: usize,
     pub cards: usize,
     pub images: usize,
+    /// Images over which passes follow one another in one journal.
+    pub turns: usize,
     /// Stations from the seed; every edge is asked besides.
     pub sheets: usize,
     pub inputs: usize,
@@ -30,7 +33,8 @@ impl Amounts {
         words: 200_000,
         lists: 20_000,
         cards: 5_000,
-        images: 2_000,
+        images: 3_000,
+        turns: 1_000,
         sheets: 100_000,
         inputs: 200,
     };
@@ -118,6 +122,7 @@ pub fn compare(desks: &[&dyn Desk], amounts: &Amounts) -> Result<Vec<Line>, Box<
     let lists = cases(amounts, 3, amounts.lists, Cases::list);
     let cards = cases(amounts, 4, amounts.cards, Cases::card);
     let images = cases(amounts, 5, amounts.images, Cases::image);
+    let turns = cases(amounts, 8, amounts.turns, Cases::turns);
     let stations = edges().into_iter().chain(cases(amounts, 7, amounts.sheets, Cases::station));
     let inputs = cases(amounts, 6, amounts.inputs, Cases::program_input);
     Ok(vec![
@@ -129,23 +134,56 @@ pub fn compare(desks: &[&dyn Desk], amounts: &Amounts) -> Result<Vec<Line>, Box<
         ask("explain", desks, lists, explained, |a| a.0.number)?,
         ask("card check", desks, cards, |d, c| d.card_check(&c.code, c.b), |a| a.number)?,
         ask("pass", desks, images, passed, |a| a.0.number)?,
+        ask("passes", desks, turns, passed_in_turn, |a| a.0.last().map_or(0, |last| last.number))?,
         ask("sheet", desks, stations, |d, s| d.sheet(s), |a| a.number)?,
         ask("make", desks, asked_shapes(), made, |a| a.0.number)?,
         ask("mend", desks, inputs, |d, i| d.mend(i), |text| if text == "refused 12\n" { 12 } else { 0 })?,
     ])
 }
 
-/// The answer and every byte of the list.
-fn explained(desk: &dyn Desk, case: &ListCase) -> (Explained, Vec<u8>) {
-    let ListCase { word, limit, list } = case;
-    let mut list = list.clone();
-    (desk.explain(&word.code, word.data, word.check, *limit, &mut list), list)
+/// Bytes on either side of a lent buffer, which no desk may touch.
+const GUARD: usize = 16;
+
+/// A buffer to lend: these bytes between two guards.
+struct Lent(Vec<u8>);
+
+impl Lent {
+    fn new(bytes: &[u8]) -> Lent {
+        Lent([&[0xD5; GUARD], bytes, &[0xD5; GUARD]].concat())
+    }
+
+    fn bytes(&mut self) -> &mut [u8] {
+        let end = self.0.len() - GUARD;
+        &mut self.0[GUARD..end]
+    }
 }
 
-/// The answer and every byte of the image and of the journal.
+/// The answer and every byte of the list, guards too.
+fn explained(desk: &dyn Desk, case: &ListCase) -> (Explained, Vec<u8>) {
+    let ListCase { word, limit, list } = case;
+    let mut list = Lent::new(list);
+    (desk.explain(&word.code, word.data, word.check, *limit, list.bytes()), list.0)
+}
+
+/// The answer and every byte of the image and of the journal, guards too.
 fn passed(desk: &dyn Desk, case: &ImageCase) -> (Passed, Vec<u8>, Vec<u8>) {
-    let ImageCase { code, mut image, start, end, mut journal } = case.clone();
-    (desk.pass(&code, &mut image, start, end, &mut journal), image, journal)
+    let ImageCase { code, image, journal, asked } = case;
+    let (mut image, mut journal) = (Lent::new(image), Lent::new(journal));
+    (desk.pass(code, image.bytes(), journal.bytes(), asked), image.0, journal.0)
+}
+
+/// The answers of passes that go by the count handed back, and every byte of the image and of the journal, guards too.
+fn passed_in_turn(desk: &dyn Desk, case: &TurnsCase) -> (Vec<Passed>, Vec<u8>, Vec<u8>) {
+    let (mut image, mut journal) = (Lent::new(&case.image), Lent::new(&case.journal));
+    let (mut answers, mut used) = (Vec::new(), 0);
+    for &(code, start, end, stamp) in &case.turns {
+        let answer = desk.pass(&code, image.bytes(), journal.bytes(), &Pass { start, end, used, stamp });
+        if answer.number == 0 {
+            used = answer.used;
+        }
+        answers.push(answer);
+    }
+    (answers, image.0, journal.0)
 }
 
 /// What words of a made code hold: each is cut to its k data bits.

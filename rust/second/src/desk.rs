@@ -3,6 +3,7 @@
 use crate::answers::{Balanced, CardsChecked, Explained, Judged, Passed, Reading, Wanted, Written};
 use crate::code::Code;
 use crate::make::Made;
+use crate::pass::Pass;
 use crate::sheet::{Sheeted, Station};
 
 /// Every question of document 01, and 02's sheet and maker. No method has a body here: a desk must not fall back on another's answer.
@@ -15,7 +16,7 @@ pub trait Desk {
     fn read(&self, code: &Code, data: u64, check: u16) -> Reading;
     fn explain(&self, code: &Code, data: u64, check: u16, limit: usize, list: &mut [u8]) -> Explained;
     fn card_check(&self, code: &Code, b: usize) -> CardsChecked;
-    fn pass(&self, code: &Code, image: &mut [u8], start: usize, end: usize, journal: &mut [u8]) -> Passed;
+    fn pass(&self, code: &Code, image: &mut [u8], journal: &mut [u8], asked: &Pass) -> Passed;
     fn sheet(&self, asked: &Station) -> Sheeted;
     fn make(&self, k: usize, r: usize) -> Made;
     fn mend(&self, input: &[u8]) -> String;
@@ -58,8 +59,8 @@ impl Desk for Second {
         crate::card_check(code, b)
     }
 
-    fn pass(&self, code: &Code, image: &mut [u8], start: usize, end: usize, journal: &mut [u8]) -> Passed {
-        crate::pass(code, image, start, end, journal)
+    fn pass(&self, code: &Code, image: &mut [u8], journal: &mut [u8], asked: &Pass) -> Passed {
+        crate::pass(code, image, journal, asked)
     }
 
     fn sheet(&self, asked: &Station) -> Sheeted {

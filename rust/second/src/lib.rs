@@ -31,7 +31,7 @@ pub use compare::{compare, Amounts, Difference, Line};
 pub use desk::{Desk, Second};
 pub use explain::explain;
 pub use make::{make, Made};
-pub use pass::{counted, pass};
+pub use pass::{counted, pass, stamp_of, Pass};
 pub use program::{mend, run, sample_code};
 pub use random::Random;
 pub use sheet::{share, sheet, Limit, Sheeted, Station};

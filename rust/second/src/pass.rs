@@ -6,8 +6,18 @@ use crate::word::{number, Accepted, NO_PLACE};
 
 /// Bytes of a record, of an entry of the journal, and of the longest image.
 pub const RECORD: usize = 10;
-pub const ENTRY: usize = 24;
+pub const ENTRY: usize = 28;
 pub const IMAGE: usize = 65_530;
+
+/// What a pass is told: its run, from the record `start` up to `end`, which is not counted; how many entries of the journal
+/// are in use; and its stamp.
+#[derive(Clone, Copy, PartialEq, Eq, Debug, Default)]
+pub struct Pass {
+    pub start: usize,
+    pub end: usize,
+    pub used: usize,
+    pub stamp: u32,
+}
 
 /// One record of the run: its number from the image's start, what it reads as, its bytes before and after.
 struct Seen {
@@ -19,9 +29,10 @@ struct Seen {
 }
 
 impl Seen {
-    fn entry(&self) -> Vec<u8> {
+    fn entry(&self, stamp: u32) -> Vec<u8> {
+        let stamp = switches(stamp.into(), 32).chunks(8).map(|byte| number(byte) as u8).collect::<Vec<u8>>();
         let head = [(self.record % 256) as u8, (self.record / 256) as u8, self.verdict as u8, self.place as u8];
-        [&head[..], &self.before, &self.after].concat()
+        [&stamp[..], &head, &self.before, &self.after].concat()
     }
 }
 
@@ -49,12 +60,19 @@ pub fn counted(tally: [usize; 6], verdict: usize) -> [usize; 6] {
     tally
 }
 
-/// Mends the records from `start` up to `end`, the end not counted, and writes an entry for each that is not clean.
-pub fn pass(code: &Code, image: &mut [u8], start: usize, end: usize, journal: &mut [u8]) -> Passed {
-    try_pass(code, image, start, end, journal).unwrap_or_else(Passed::from)
+/// The stamp of an entry: its first four bytes, the low one first.
+pub fn stamp_of(entry: &[u8]) -> u32 {
+    let bits: Vec<bool> = entry[..4].iter().flat_map(|&byte| switches(byte.into(), 8)).collect();
+    number(&bits) as u32
 }
 
-fn try_pass(code: &Code, image: &mut [u8], start: usize, end: usize, journal: &mut [u8]) -> Result<Passed, Refusal> {
+/// Mends the records of the run, and writes an entry for each that is not clean behind those in use.
+pub fn pass(code: &Code, image: &mut [u8], journal: &mut [u8], asked: &Pass) -> Passed {
+    try_pass(code, image, journal, asked).unwrap_or_else(Passed::from)
+}
+
+fn try_pass(code: &Code, image: &mut [u8], journal: &mut [u8], asked: &Pass) -> Result<Passed, Refusal> {
+    let Pass { start, end, used, stamp } = *asked;
     let code = Accepted::new(code)?;
     if image.len() % RECORD != 0 || image.len() > IMAGE {
         return Err(Refusal::plain(12));
@@ -62,18 +80,26 @@ fn try_pass(code: &Code, image: &mut [u8], start: usize, end: usize, journal: &m
     if start > end || end > image.len() / RECORD {
         return Err(Refusal::plain(14));
     }
+    let mut entries: Vec<&mut [u8]> = journal.chunks_exact_mut(ENTRY).collect();
+    if used > entries.len() {
+        return Err(Refusal::plain(17));
+    }
+    let left = entries.split_off(used);
+    if entries.last().map_or(false, |last| stamp < stamp_of(last)) {
+        return Err(Refusal::plain(16));
+    }
     let seen: Vec<Seen> = (start..end).map(|record| see(&code, record, &image[RECORD * record..][..RECORD])).collect();
     let noted: Vec<&Seen> = seen.iter().filter(|one| one.verdict != 0).collect();
-    if journal.len() / ENTRY < noted.len() {
+    if left.len() < noted.len() {
         return Err(Refusal { number: 13, told: noted.len() });
     }
-    for (one, room) in noted.iter().zip(journal.chunks_exact_mut(ENTRY)) {
-        room.copy_from_slice(&one.entry());
+    for (one, room) in noted.iter().zip(left) {
+        room.copy_from_slice(&one.entry(stamp));
         image[RECORD * one.record..][..RECORD].copy_from_slice(&one.after);
     }
     let mut tally = [0; 6];
     for (verdict, count) in tally.iter_mut().enumerate() {
         *count = seen.iter().filter(|one| one.verdict == verdict).count();
     }
-    Ok(Passed { tally, ..Passed::default() })
+    Ok(Passed { used: used + noted.len(), tally, ..Passed::default() })
 }

@@ -3,7 +3,7 @@
 //! It passes over the whole image at once, so that a program that goes run by run is compared with something else.
 
 use crate::code::Code;
-use crate::pass::{pass, ENTRY, IMAGE, RECORD};
+use crate::pass::{pass, Pass, ENTRY, IMAGE, RECORD};
 use std::io::{self, Read, Write};
 
 /// Source document 002, figure 2.
@@ -11,20 +11,19 @@ pub fn sample_code() -> Code {
     Code::of(&[28, 26, 25, 22, 21, 19, 14, 13], 5)
 }
 
-/// What the program prints for this input.
+/// What the program prints for this input. Its one pass has the stamp 0 and a journal of which nothing is in use.
 pub fn mend(input: &[u8]) -> String {
     let mut image = input.to_vec();
     let mut journal = vec![0; IMAGE / RECORD * ENTRY];
     let records = image.len() / RECORD;
-    let passed = pass(&sample_code(), &mut image, 0, records, &mut journal);
+    let passed = pass(&sample_code(), &mut image, &mut journal, &Pass { end: records, ..Pass::default() });
     if passed.number != 0 {
         return format!("refused {}\n", passed.number);
     }
-    let noted: usize = passed.tally[1..].iter().sum();
     let mut text = String::new();
-    for entry in journal.chunks(ENTRY).take(noted) {
-        let record = usize::from(entry[0]) + 256 * usize::from(entry[1]);
-        text += &format!("{} {} {}\n", record, entry[2], entry[3]);
+    for entry in journal.chunks(ENTRY).take(passed.used) {
+        let record = usize::from(entry[4]) + 256 * usize::from(entry[5]);
+        text += &format!("{} {} {}\n", record, entry[6], entry[7]);
     }
     let names = ["clean", "data", "check", "even", "odd", "stray"];
     let counts: Vec<String> =

@@ -2,13 +2,14 @@
 
 use crate::code::{ones, switches, Code};
 use crate::desk::Desk;
+use crate::pass::Pass;
 use std::fmt::UpperHex;
 use std::str::FromStr;
 
 /// What buffers hold before a call.
 const FILL: u8 = 0xEE;
 
-/// What the questions are about, and the journal of the last pass.
+/// What the questions are about; passes leave image and journal to the next.
 struct Worked {
     code: Code,
     image: Vec<u8>,
@@ -73,6 +74,10 @@ impl Worked {
                     |pair: &[&str]| [&data(pair[0]).to_le_bytes()[..], &number::<u16>(pair[1]).to_le_bytes()].concat();
                 self.image = pairs.chunks(2).flat_map(record).collect();
             }
+            ["journal", ref bytes @ ..] => {
+                self.journal = bytes.iter().map(|byte| data(byte) as u8).collect();
+                self.journal.resize(512, FILL);
+            }
             _ => panic!("{:?} is about nothing", line),
         }
     }
@@ -122,11 +127,11 @@ impl Worked {
                 let a = desk.card_check(code, number(b));
                 said(&[a.number, a.told, a.card, a.mask])
             }
-            ["pass", start, end, room] => {
-                self.journal = vec![FILL; 512];
-                let journal = &mut self.journal[..number::<usize>(room)];
-                let a = desk.pass(code, &mut self.image, number(start), number(end), journal);
-                said(&[a.number, a.told]) + &said(&a.tally)
+            ["pass", start, end, length, used, stamp] => {
+                let asked = Pass { start: number(start), end: number(end), used: number(used), stamp: number(stamp) };
+                let journal = &mut self.journal[..number::<usize>(length)];
+                let a = desk.pass(code, &mut self.image, journal, &asked);
+                said(&[a.number, a.told, a.used]) + &said(&a.tally)
             }
             ["left"] => hex(&self.image, 2),
             ["noted"] => hex(changed(&self.journal), 2),

@@ -52,6 +52,23 @@ enum Fault {
     NothingIsMended,
     StrayIsNotCounted,
     RefusedPassHasTally,
+    // Stamps and entries in use.
+    StampHighByteFirst,
+    WrittenOverAUsedEntry,
+    FirstStampIsCompared,
+    EqualStampIsRefused,
+    StampIsTriedWithNoneUsed,
+    RoomFromTheStart,
+    OneUsedTooMany,
+    FullJournalIsRefused,
+    NoRoomForTheLast,
+    NarrowCountInUse,
+    RoomBeforeStamp,
+    StampBeforeRun,
+    StampIsNotWritten,
+    NewEntriesAreHandedBack,
+    RefusedPassHasCount,
+    LastUsedEntryIsStamped,
     // Sheets.
     EndsAreOutside,
     CeilingIsAFloor,
@@ -118,6 +135,61 @@ impl Sloppy {
             NarrowNumbers => Code { k: code.k as u32 as usize, r: code.r as u32 as usize, ..*code },
             _ => *code,
         }
+    }
+}
+
+/// A pass that is refused by this number: image and journal are put back.
+fn put_back(number: usize, image: &mut [u8], journal: &mut [u8], before: (Vec<u8>, Vec<u8>)) -> Passed {
+    image.copy_from_slice(&before.0);
+    journal.copy_from_slice(&before.1);
+    Passed { number, ..Passed::default() }
+}
+
+impl Sloppy {
+    /// A pass as this desk takes stamps and the count in use.
+    fn pass_by_the_count(&self, code: &Code, image: &mut [u8], journal: &mut [u8], asked: &Pass) -> Passed {
+        let Pass { used, stamp, .. } = *asked;
+        let (before, room) = ((image.to_vec(), journal.to_vec()), journal.len() / 28);
+        let is_used = (1..=room).contains(&used);
+        let stamp_at = |entry: usize| before.1.get(28 * entry..28 * entry + 4).map_or(0, stamp_of);
+        let (first, last) = (stamp_at(0), if is_used { stamp_at(used - 1) } else { 0 });
+        let mut answer = pass(code, image, journal, asked);
+        let new = 28 * used.min(room)..28 * answer.used.max(used.min(room));
+        match (self.0, answer.number) {
+            (StampHighByteFirst, 0) => journal[new].chunks_mut(28).for_each(|entry| entry[..4].reverse()),
+            (StampIsNotWritten, 0) => journal[new].chunks_mut(28).for_each(|entry| entry[..4].fill(0)),
+            (WrittenOverAUsedEntry, 0) if is_used => journal.copy_within(new, 28 * (used - 1)),
+            (LastUsedEntryIsStamped, 0) if is_used => {
+                journal[28 * (used - 1)..][..4].copy_from_slice(&stamp.to_le_bytes())
+            }
+            (FirstStampIsCompared, 0 | 13) if is_used && stamp < first => return put_back(16, image, journal, before),
+            (FirstStampIsCompared, 16) if stamp >= first => answer.number = 0,
+            (EqualStampIsRefused, 0 | 13) if is_used && stamp == last => return put_back(16, image, journal, before),
+            (StampIsTriedWithNoneUsed, 0 | 13) if used == 0 && stamp < first => {
+                return put_back(16, image, journal, before)
+            }
+            (RoomFromTheStart, 13) if answer.told <= room => answer = Passed::default(),
+            (OneUsedTooMany, 17) if used == room + 1 => answer.number = 0,
+            (FullJournalIsRefused, 0 | 13 | 16) if used == room => return put_back(17, image, journal, before),
+            (NoRoomForTheLast, 0) if answer.used == room && answer.used > used => {
+                return put_back(13, image, journal, before)
+            }
+            (NarrowCountInUse, 17) => {
+                return pass(code, image, journal, &Pass { used: used as u32 as usize, ..*asked })
+            }
+            (RoomBeforeStamp, 16) => {
+                let without = pass(code, image, journal, &Pass { stamp: u32::MAX, ..*asked });
+                if without.number == 13 {
+                    return without;
+                }
+                return put_back(16, image, journal, before);
+            }
+            (StampBeforeRun, 14) if is_used && stamp < last => answer.number = 16,
+            (NewEntriesAreHandedBack, 0) => answer.used -= used,
+            (RefusedPassHasCount, 13 | 16) => answer.used = used,
+            _ => {}
+        }
+        answer
     }
 }
 
@@ -221,19 +293,25 @@ impl Desk for Sloppy {
         }
     }
 
-    fn pass(&self, code: &Code, image: &mut [u8], start: usize, end: usize, journal: &mut [u8]) -> Passed {
+    fn pass(&self, code: &Code, image: &mut [u8], journal: &mut [u8], asked: &Pass) -> Passed {
+        let Pass { start, end, used, .. } = *asked;
         let (before, records) = (image.to_vec(), image.len() / 10);
         let bad_run = start > end || end > records;
-        let mut answer = pass(code, image, start, end, journal);
+        let mut answer = self.pass_by_the_count(code, image, journal, asked);
         let noted: usize = answer.tally[1..].iter().sum();
         match (self.0, answer.number) {
             (RunBeforeLength, 12) if bad_run => answer.number = 14,
-            (JournalBeforeRun, 14) if start < records && journal.len() < 24 => answer.number = 13,
+            (JournalBeforeRun, 14) if start < records && journal.len() < 28 => answer.number = 13,
             (LastRecordIsBeyond, 0) if end == records => answer = Passed { number: 14, ..Passed::default() },
-            (WholeImageIsMended, 0) => drop(pass(code, image, 0, records, &mut vec![0; 24 * records])),
-            (NumbersFromTheRun, 0) if noted > 0 => journal[0] = journal[0].wrapping_sub(start as u8),
+            (WholeImageIsMended, 0) => {
+                let whole = Pass { start: 0, end: records, ..Pass::default() };
+                pass(code, image, &mut vec![0; 28 * records], &whole);
+            }
+            (NumbersFromTheRun, 0) if noted > 0 => {
+                journal[28 * used + 4] = journal[28 * used + 4].wrapping_sub(start as u8)
+            }
             (RefusedPassIsNoted, 13) => journal.fill(0),
-            (JournalTailIsCleared, 0) => journal[24 * noted..].fill(0),
+            (JournalTailIsCleared, 0) => journal[28 * answer.used..].fill(0),
             (NothingIsMended, 0) => image.copy_from_slice(&before),
             (StrayIsNotCounted, 0) => answer.tally[5] = 0,
             (RefusedPassHasTally, 13) => answer.tally[3] = answer.told,
@@ -299,7 +377,8 @@ impl Desk for Sloppy {
     }
 }
 
-const NO_CASES: Amounts = Amounts { seed: 1, codes: 0, words: 0, lists: 0, cards: 0, images: 0, sheets: 0, inputs: 0 };
+const NO_CASES: Amounts =
+    Amounts { seed: 1, codes: 0, words: 0, lists: 0, cards: 0, images: 0, turns: 0, sheets: 0, inputs: 0 };
 
 /// Every fault is noticed, at this question, with no more cases than these.
 fn noticed(faults: &[Fault], question: &str, amounts: Amounts) {
@@ -350,6 +429,39 @@ fn every_fault_of_a_pass_is_noticed() {
     noticed(&[NoLastLineEnd, RefusedPrintsTally], "mend", amounts);
 }
 
+/// The faults of a stamp and of the count in use.
+const STAMPS: [Fault; 16] = [
+    StampHighByteFirst,
+    WrittenOverAUsedEntry,
+    FirstStampIsCompared,
+    EqualStampIsRefused,
+    StampIsTriedWithNoneUsed,
+    RoomFromTheStart,
+    OneUsedTooMany,
+    FullJournalIsRefused,
+    NoRoomForTheLast,
+    NarrowCountInUse,
+    RoomBeforeStamp,
+    StampBeforeRun,
+    StampIsNotWritten,
+    NewEntriesAreHandedBack,
+    RefusedPassHasCount,
+    LastUsedEntryIsStamped,
+];
+
+#[test]
+fn every_fault_of_a_stamp_or_a_count_in_use_is_noticed() {
+    noticed(&STAMPS, "pass", Amounts { images: 1_000, ..NO_CASES });
+}
+
+#[test]
+fn passes_in_turn_notice_what_a_true_count_shows() {
+    let faults = [StampHighByteFirst, WrittenOverAUsedEntry, FirstStampIsCompared, EqualStampIsRefused];
+    noticed(&faults, "passes", Amounts { turns: 500, ..NO_CASES });
+    let faults = [StampIsTriedWithNoneUsed, RoomFromTheStart, NoRoomForTheLast, NewEntriesAreHandedBack];
+    noticed(&faults, "passes", Amounts { turns: 500, ..NO_CASES });
+}
+
 #[test]
 fn every_fault_of_a_sheet_is_noticed() {
     noticed(&[EndsAreOutside, CeilingIsAFloor, RoundedTwice, HoursAreNotJudged], "sheet", NO_CASES);
@@ -369,7 +481,7 @@ fn the_worked_cases_notice_every_easy_way_to_go_wrong_and_every_byte() {
     let bytes = [RefusedListIsWritten, ListTailIsCleared, RefusedPassIsNoted, NothingIsMended];
     let amended = [CardsRunStraightOn, DataCardIsJoined, CheckCardsAreLeftOut, CheckCardsFromZero];
     let made = [FiveBeforeThree, LargerNumberFirst, ColumnLeftOut, LeftoverIsMade, RoomForOneLess, RoomForOneMore];
-    for fault in ways.into_iter().chain(bytes).chain(amended).chain(made) {
+    for fault in ways.into_iter().chain(bytes).chain(amended).chain(made).chain(STAMPS) {
         assert!(!worked(&Sloppy(fault)).is_empty(), "{:?}", fault);
     }
 }

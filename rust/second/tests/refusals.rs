@@ -22,9 +22,12 @@ fn refused_everywhere(code: Code, number: usize, told: usize) {
         assert_eq!(card_check(&code, b), cards_refused(number, told));
     }
     for (bytes, start, end) in [(20, 0, 2), (20, 2, 1), (20, 0, 3), (19, 0, 1), (65_540, 0, 1)] {
-        let (mut image, mut journal) = (vec![0xA6; bytes], [0xEE; 47]);
-        assert_eq!(pass(&code, &mut image, start, end, &mut journal), pass_refused(number, told));
-        assert!(image == vec![0xA6; bytes] && journal == [0xEE; 47]);
+        for used in [0, 1, 2, usize::MAX] {
+            let (mut image, mut journal) = (vec![0xA6; bytes], [0xEE; 55]);
+            let asked = Pass { used, ..over(start, end) };
+            assert_eq!(pass(&code, &mut image, &mut journal, &asked), pass_refused(number, told));
+            assert!(image == vec![0xA6; bytes] && journal == [0xEE; 55]);
+        }
     }
 }
 
@@ -158,17 +161,24 @@ fn number_11_the_flip_limit_after_7_and_before_10() {
     }
 }
 
-/// A pass of the sample code over zero bytes with `bad` records of A6 with 27 in front; nothing changes.
-fn refused_pass(bytes: usize, bad: usize, (start, end): (usize, usize), journal: usize) -> Passed {
+/// A pass of the sample code over zero bytes with `bad` records of A6 with 27 in front, in a journal of so many bytes whose
+/// entries have the stamps 0x0101_0101, 0x0202_0202 and so on; nothing changes.
+fn unchanged(bytes: usize, bad: usize, asked: Pass, journal: usize) -> Passed {
     let mut image = vec![0; bytes];
     for at in 0..bad {
         image[10 * at..10 * at + 10].copy_from_slice(&record(0xA6, 27));
     }
     let before = image.clone();
-    let mut noted = vec![0xEE; journal];
-    let answer = pass(&sample_code(), &mut image, start, end, &mut noted);
-    assert!(image == before && noted == vec![0xEE; journal]);
+    let filled: Vec<u8> = (0..journal).map(|at| (1 + at / 28) as u8).collect();
+    let mut noted = filled.clone();
+    let answer = pass(&sample_code(), &mut image, &mut noted, &asked);
+    assert!(image == before && noted == filled);
     answer
+}
+
+/// The same with the stamp 0 and none in use.
+fn refused_pass(bytes: usize, bad: usize, (start, end): (usize, usize), journal: usize) -> Passed {
+    unchanged(bytes, bad, over(start, end), journal)
 }
 
 #[test]
@@ -187,16 +197,82 @@ fn number_14_the_run() {
     let backwards = [(1, 0), (3, 2), (usize::MAX, 3), (usize::MAX, 0)];
     for run in beyond.into_iter().chain(backwards) {
         assert_eq!(refused_pass(30, 3, run, 0), pass_refused(14, 0), "14 before 13");
-        assert_eq!(refused_pass(30, 3, run, 72), pass_refused(14, 0));
+        assert_eq!(refused_pass(30, 3, run, 84), pass_refused(14, 0));
+        let (start, end) = run;
+        for (used, stamp) in [(4, 9), (usize::MAX, 0), (1, 0)] {
+            let asked = Pass { start, end, used, stamp };
+            assert_eq!(unchanged(30, 3, asked, 84), pass_refused(14, 0), "14 before 17 and 16");
+        }
     }
     assert_eq!(refused_pass(0, 0, (0, 1), 0), pass_refused(14, 0));
 }
 
 #[test]
 fn number_13_the_journals_room() {
-    for journal in 0..72 {
+    for journal in 0..84 {
         assert_eq!(refused_pass(50, 3, (0, 5), journal), pass_refused(13, 3));
     }
-    assert_eq!(refused_pass(50, 3, (2, 5), 23), pass_refused(13, 1));
-    assert_eq!(refused_pass(50, 3, (3, 5), 0), pass_done([2, 0, 0, 0, 0, 0]));
+    assert_eq!(refused_pass(50, 3, (2, 5), 27), pass_refused(13, 1));
+    assert_eq!(refused_pass(50, 3, (3, 5), 0), pass_done(0, [2, 0, 0, 0, 0, 0]));
+}
+
+#[test]
+fn number_13_counts_the_room_that_is_left() {
+    for used in 1..=4 {
+        let asked = Pass { used, stamp: u32::MAX, ..over(0, 5) };
+        for journal in 28 * used..28 * (used + 3) {
+            assert_eq!(unchanged(50, 3, asked, journal), pass_refused(13, 3));
+        }
+        let full = Pass { start: 3, ..asked };
+        assert_eq!(unchanged(50, 3, full, 28 * used), pass_done(used, [2, 0, 0, 0, 0, 0]));
+    }
+}
+
+#[test]
+fn number_17_the_count_in_use_after_14_and_before_16_and_13() {
+    for journal in [0, 1, 27, 28, 55, 56, 83, 84] {
+        let room = journal / 28;
+        for used in [room + 1, room + 2, 256 + room, 1 << 32, (1 << 32) + room, usize::MAX] {
+            for (start, end) in [(0, 0), (3, 5), (0, 5)] {
+                for stamp in [0, u32::MAX] {
+                    let asked = Pass { start, end, used, stamp };
+                    assert_eq!(unchanged(50, 3, asked, journal), pass_refused(17, 0));
+                    assert_eq!(unchanged(49, 3, asked, journal), pass_refused(12, 0), "12 before 17");
+                }
+            }
+        }
+        let full = Pass { used: room, stamp: u32::MAX, ..over(3, 5) };
+        assert_eq!(unchanged(50, 3, full, journal), pass_done(room, [2, 0, 0, 0, 0, 0]));
+    }
+}
+
+#[test]
+fn number_16_the_stamp_of_the_last_used_entry_before_13() {
+    for used in 1..=3 {
+        let last = used as u32 * 0x0101_0101;
+        for (start, end) in [(0, 0), (3, 5), (0, 5)] {
+            for stamp in [0, 1, last - 1, last & 0xFF, 0x0101_0100] {
+                let asked = Pass { start, end, used, stamp };
+                assert_eq!(unchanged(50, 3, asked, 28 * 3), pass_refused(16, 0));
+                assert_eq!(unchanged(49, 3, asked, 28 * 3), pass_refused(12, 0), "12 before 16");
+            }
+        }
+        for stamp in [last, last + 1, u32::MAX] {
+            let asked = Pass { start: 3, end: 5, used, stamp };
+            assert_eq!(unchanged(50, 3, asked, 28 * 3), pass_done(used, [2, 0, 0, 0, 0, 0]));
+        }
+    }
+    // With none in use any stamp will do, whatever the bytes are.
+    assert_eq!(unchanged(50, 3, over(3, 5), 28 * 3), pass_done(0, [2, 0, 0, 0, 0, 0]));
+}
+
+#[test]
+fn number_16_looks_at_the_last_used_entry_alone() {
+    let high_then_low = [vec![0xFF; 28], vec![0; 4], vec![0xFF; 24 + 28]].concat();
+    let mut journal = high_then_low.clone();
+    let asked = Pass { used: 2, stamp: 0, ..over(0, 0) };
+    assert_eq!(pass(&sample_code(), &mut [], &mut journal, &asked), pass_done(2, [0; 6]));
+    assert_eq!(pass(&sample_code(), &mut [], &mut journal, &Pass { used: 3, ..asked }), pass_refused(16, 0));
+    assert_eq!(pass(&sample_code(), &mut [], &mut journal, &Pass { used: 1, ..asked }), pass_refused(16, 0));
+    assert_eq!(journal, high_then_low);
 }

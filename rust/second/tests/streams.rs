@@ -11,6 +11,7 @@ const SMALL: Amounts = Amounts {
     lists: 2_000,
     cards: 1_000,
     images: 1_000,
+    turns: 1_000,
     sheets: 4_000,
     inputs: 40,
 };
@@ -20,7 +21,7 @@ fn the_same_seed_gives_the_same_cases() {
     let all = |seed: u64| {
         let mut cases = Cases::new(seed);
         let some = |_| {
-            let program = (cases.image(), cases.program_input());
+            let program = (cases.image(), cases.turns(), cases.program_input());
             (cases.code(), cases.word(), cases.list(), cases.card(), cases.station(), program)
         };
         format!("{:?}", (0..50).map(some).collect::<Vec<_>>())
@@ -41,7 +42,8 @@ fn every_number_of_every_question_is_met() {
         ("read", met(&[0, 1, 2, 3, 4, 5, 6, 7, 21])),
         ("explain", met(&[0, 1, 2, 3, 4, 5, 6, 7, 10, 11, 21])),
         ("card check", met(&[0, 1, 2, 3, 4, 5, 6, 8, 9, 21])),
-        ("pass", met(&[0, 1, 2, 3, 4, 5, 6, 12, 13, 14, 21])),
+        ("pass", met(&[0, 1, 2, 3, 4, 5, 6, 12, 13, 14, 16, 17, 21])),
+        ("passes", met(&[0, 1, 2, 3, 4, 5, 6, 13, 14, 16, 21])),
         ("sheet", met(&[0, 19])),
         ("make", met(&[0, 1, 2, 15])),
         ("mend", met(&[0, 12])),
@@ -161,36 +163,91 @@ fn images_have_every_verdict_run_and_journal() {
     for _ in 0..2_000 {
         let case = cases.image();
         let (mut image, mut journal) = (case.image.clone(), case.journal.clone());
-        let answer = pass(&case.code, &mut image, case.start, case.end, &mut journal);
-        let records = case.image.len() / 10;
+        let Pass { start, end, used, stamp } = case.asked;
+        let answer = pass(&case.code, &mut image, &mut journal, &case.asked);
+        let (records, room) = (case.image.len() / 10, case.journal.len() / 28);
         let noted: usize = answer.tally[1..].iter().sum();
+        let last = if (1..=room).contains(&used) { Some(stamp_of(&case.journal[28 * used - 28..])) } else { None };
         if answer.number == 0 {
+            assert_eq!(answer.used, used + noted);
             tally.iter_mut().zip(answer.tally).for_each(|(all, count)| *all += count);
-            assert!(journal[24 * noted..] == case.journal[24 * noted..]);
+            assert!(journal[..28 * used] == case.journal[..28 * used]);
+            assert!(journal[28 * answer.used..] == case.journal[28 * answer.used..]);
             let changed = (0..image.len()).filter(|&at| image[at] != case.image[at]);
-            assert!(changed.into_iter().all(|at| (case.start..case.end).contains(&(at / 10))));
-            seen.insert(("inner run", (case.start > 0 && case.end < records && noted > 0).into()));
-            seen.insert(("equal ends", (case.start == case.end).into()));
-            seen.insert(("over a byte", (case.end > 256 && noted > 0).into()));
+            assert!(changed.into_iter().all(|at| (start..end).contains(&(at / 10))));
+            seen.insert(("inner run", (start > 0 && end < records && noted > 0).into()));
+            seen.insert(("equal ends", (start == end).into()));
+            seen.insert(("over a byte", (end > 256 && noted > 0).into()));
             seen.insert(("longest", (case.image.len() == 65_530).into()));
-            seen.insert(("room", (case.journal.len() - 24 * noted).min(25)));
+            seen.insert(("room", (case.journal.len() - 28 * answer.used).min(29)));
+            seen.insert(("used", used.min(3)));
+            seen.insert(("equal stamp", (last == Some(stamp) && noted > 0).into()));
+            seen.insert(("highest stamp", (stamp == u32::MAX && used > 0 && noted > 0).into()));
+            let first = case.journal.get(..28).map(stamp_of);
+            seen.insert(("below the first", (used > 1 && first > Some(stamp)).into()));
+            seen.insert(("below what is not in use", (used == 0 && first > Some(stamp)).into()));
+            seen.insert(("full and all clean", (used == room && used > 0 && noted == 0 && start < end).into()));
         } else {
             assert!(image == case.image && journal == case.journal);
-            seen.insert(("backwards", (answer.number == 14 && case.start > case.end).into()));
-            seen.insert(("beyond by one", (answer.number == 14 && case.end == records + 1).into()));
-            seen.insert(("far beyond", (answer.number == 14 && case.end == usize::MAX).into()));
+            seen.insert(("backwards", (answer.number == 14 && start > end).into()));
+            seen.insert(("beyond by one", (answer.number == 14 && end == records + 1).into()));
+            seen.insert(("far beyond", (answer.number == 14 && end == usize::MAX).into()));
             seen.insert(("odd length", (answer.number == 12 && case.image.len() % 10 != 0).into()));
             seen.insert(("too long", (answer.number == 12 && case.image.len() == 65_540).into()));
-            seen.insert(("short by", if answer.number == 13 { 24 * answer.told - case.journal.len() } else { 0 }));
+            let needed = 28 * (used.min(room) + answer.told);
+            seen.insert(("short by", if answer.number == 13 { needed - case.journal.len() } else { 0 }));
+            seen.insert(("short by what is in use", (answer.number == 13 && answer.told <= room).into()));
+            seen.insert(("one too many in use", (answer.number == 17 && used == room + 1).into()));
+            seen.insert(("far too many in use", (answer.number == 17 && used == usize::MAX).into()));
+            seen.insert(("cut short they would fit", (answer.number == 17 && used as u32 as usize <= room).into()));
+            seen.insert(("lower by one", (answer.number == 16 && last == stamp.checked_add(1)).into()));
+            seen.insert(("not below the first", (answer.number == 16 && stamp >= stamp_of(&case.journal)).into()));
+            seen.insert(("lower, and nothing to write", (answer.number == 16 && start == end).into()));
         }
     }
     assert!(tally.iter().all(|&count| count > 1_000), "{:?}", tally);
     let shapes = ["inner run", "equal ends", "over a byte", "longest", "backwards", "beyond by one", "far beyond"];
-    for shape in shapes.iter().chain(&["odd length", "too long", "short by"]) {
+    let stamps = ["equal stamp", "highest stamp", "below the first", "below what is not in use", "full and all clean"];
+    let lower = ["lower by one", "not below the first", "lower, and nothing to write"];
+    let counts = ["short by what is in use", "one too many in use", "far too many in use", "cut short they would fit"];
+    let all = shapes.iter().chain(&["odd length", "too long", "short by"]).chain(&stamps).chain(&lower).chain(&counts);
+    for shape in all {
         assert!(seen.contains(&(shape, 1)), "{}", shape);
     }
-    assert!([0, 1, 23, 25].iter().all(|&over| seen.contains(&("room", over))));
-    assert!(seen.contains(&("short by", 24)));
+    assert!([0, 1, 27, 29].iter().all(|&over| seen.contains(&("room", over))));
+    assert!((0..=3).all(|used| seen.contains(&("used", used))));
+    assert!(seen.contains(&("short by", 28)));
+}
+
+#[test]
+fn passes_in_turn_go_on_in_one_journal() {
+    let mut cases = Cases::new(10);
+    let (mut done, mut refused_between, mut longest) = (0, 0, 0);
+    for _ in 0..500 {
+        let case = cases.turns();
+        let (mut image, mut journal, mut used) = (case.image.clone(), case.journal.clone(), 0);
+        let (mut stamps, mut numbers) = (Vec::new(), Vec::new());
+        for &(code, start, end, stamp) in &case.turns {
+            let before = journal.clone();
+            let answer = pass(&code, &mut image, &mut journal, &Pass { start, end, used, stamp });
+            assert!(journal[..28 * used] == before[..28 * used]);
+            if answer.number == 0 {
+                stamps.resize(answer.used, stamp);
+                used = answer.used;
+            }
+            numbers.push(answer.number);
+        }
+        assert!(journal.chunks(28).zip(&stamps).all(|(entry, &stamp)| stamp_of(entry) == stamp));
+        assert!(stamps.windows(2).all(|pair| pair[0] <= pair[1]), "stamps never fall");
+        assert!(journal[28 * used..] == case.journal[28 * used..]);
+        let first = numbers.iter().position(|&number| number == 0);
+        let last = numbers.iter().rposition(|&number| number == 0);
+        done += numbers.iter().filter(|&&number| number == 0).count();
+        refused_between += usize::from(first < last && numbers[first.unwrap()..last.unwrap()].iter().any(|&n| n != 0));
+        stamps.dedup();
+        longest = longest.max(stamps.len());
+    }
+    assert!(done > 500 && refused_between > 50 && longest > 3, "{} {} {}", done, refused_between, longest);
 }
 
 #[test]

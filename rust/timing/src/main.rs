@@ -10,7 +10,7 @@ use desk::{ENTRY, RECORD};
 use images::Damage;
 use std::time::Instant;
 
-type Pass = fn(&Code, &mut [u8], usize, usize, &mut [u8]) -> PassAnswer;
+type Pass = fn(&Code, &mut [u8], usize, usize, &mut [u8], usize, u32) -> PassAnswer;
 
 /// What is timed, the desk first.
 const PASSES: [Pass; 3] = [ffi::pass, plain::two_walks, plain::one_walk];
@@ -23,7 +23,7 @@ fn timed(pass: Pass, code: &Code, image: &[u8]) -> ((PassAnswer, Vec<u8>, Vec<u8
     let records = image.len() / RECORD;
     let (mut image, mut journal) = (image.to_vec(), vec![0; ENTRY * records]);
     let begin = Instant::now();
-    let answer = pass(code, &mut image, 0, records, &mut journal);
+    let answer = pass(code, &mut image, 0, records, &mut journal, 0, 0);
     let elapsed = begin.elapsed();
     ((answer, image, journal), elapsed.as_nanos() as f64)
 }

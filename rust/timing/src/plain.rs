@@ -38,14 +38,30 @@ fn judge(code: &Code) -> Result<(), (usize, usize)> {
     Ok(())
 }
 
-/// The refusals of a pass, but for the journal's room.
-fn judge_run(code: &Code, image: &[u8], start: usize, end: usize) -> Result<(), (usize, usize)> {
+/// What a pass is told beside its code and its buffers.
+#[derive(Clone, Copy)]
+struct Asked {
+    start: usize,
+    end: usize,
+    used: usize,
+    stamp: u32,
+}
+
+/// The refusals of a pass, but for the room that is left in the journal.
+fn judge_run(code: &Code, image: &[u8], journal: &[u8], asked: Asked) -> Result<(), (usize, usize)> {
+    let Asked { start, end, used, stamp } = asked;
     judge(code)?;
     if image.len() % RECORD != 0 || image.len() > IMAGE {
         return Err((12, 0));
     }
     if start > end || end > image.len() / RECORD {
         return Err((14, 0));
+    }
+    if used > journal.len() / ENTRY {
+        return Err((17, 0));
+    }
+    if used > 0 && stamp < u32::from_le_bytes(journal[ENTRY * (used - 1)..][..4].try_into().unwrap()) {
+        return Err((16, 0));
     }
     Ok(())
 }
@@ -94,68 +110,86 @@ fn count(tally: &mut Tally, verdict: u8) {
 }
 
 /// Writes the entry and mends the record.
-fn mend(record: &mut [u8], number: usize, reading: &Reading, entry: &mut [u8]) {
-    entry[..2].copy_from_slice(&(number as u16).to_le_bytes());
-    entry[2] = reading.verdict;
-    entry[3] = reading.place;
-    entry[4..14].copy_from_slice(record);
+fn mend(record: &mut [u8], number: usize, reading: &Reading, stamp: u32, entry: &mut [u8]) {
+    entry[..4].copy_from_slice(&stamp.to_le_bytes());
+    entry[4..6].copy_from_slice(&(number as u16).to_le_bytes());
+    entry[6] = reading.verdict;
+    entry[7] = reading.place;
+    entry[8..18].copy_from_slice(record);
     record[..8].copy_from_slice(&reading.data.to_le_bytes());
     record[8..].copy_from_slice(&reading.check.to_le_bytes());
-    entry[14..].copy_from_slice(record);
+    entry[18..].copy_from_slice(record);
 }
 
-fn answer(result: Result<Tally, (usize, usize)>) -> PassAnswer {
+/// The answer of a pass that is done with so many entries in use and this tally, or refused.
+fn answer(result: Result<(usize, Tally), (usize, usize)>) -> PassAnswer {
     match result {
-        Ok(tally) => PassAnswer { number: 0, told: 0, tally },
-        Err((number, told)) => PassAnswer { number, told, tally: Tally::default() },
+        Ok((used, tally)) => PassAnswer { number: 0, told: 0, used, tally },
+        Err((number, told)) => PassAnswer { number, told, ..PassAnswer::default() },
     }
 }
 
 /// Reads every record to count the entries, then reads it again to mend it.
 #[inline(never)]
-pub fn two_walks(code: &Code, image: &mut [u8], start: usize, end: usize, journal: &mut [u8]) -> PassAnswer {
-    answer(try_two_walks(code, image, start, end, journal))
+pub fn two_walks(
+    code: &Code,
+    image: &mut [u8],
+    start: usize,
+    end: usize,
+    journal: &mut [u8],
+    used: usize,
+    stamp: u32,
+) -> PassAnswer {
+    answer(try_two_walks(code, image, journal, Asked { start, end, used, stamp }))
 }
 
 fn try_two_walks(
     code: &Code,
     image: &mut [u8],
-    start: usize,
-    end: usize,
     journal: &mut [u8],
-) -> Result<Tally, (usize, usize)> {
-    judge_run(code, image, start, end)?;
+    asked: Asked,
+) -> Result<(usize, Tally), (usize, usize)> {
+    judge_run(code, image, journal, asked)?;
+    let Asked { start, end, used, stamp } = asked;
     let run = &mut image[RECORD * start..RECORD * end];
     let needed = run.chunks_exact(RECORD).filter(|record| read(code, record).verdict != 0).count();
-    if journal.len() / ENTRY < needed {
+    if journal.len() / ENTRY - used < needed {
         return Err((13, needed));
     }
     let mut tally = Tally::default();
-    let mut entries = journal.chunks_exact_mut(ENTRY);
+    let mut entries = journal.chunks_exact_mut(ENTRY).skip(used);
     for (at, record) in run.chunks_exact_mut(RECORD).enumerate() {
         let reading = read(code, record);
         count(&mut tally, reading.verdict);
         if reading.verdict != 0 {
-            mend(record, start + at, &reading, entries.next().expect("counted"));
+            mend(record, start + at, &reading, stamp, entries.next().expect("counted"));
         }
     }
-    Ok(tally)
+    Ok((used + needed, tally))
 }
 
 /// Reads every record once and keeps what is not clean, then mends those.
 #[inline(never)]
-pub fn one_walk(code: &Code, image: &mut [u8], start: usize, end: usize, journal: &mut [u8]) -> PassAnswer {
-    answer(try_one_walk(code, image, start, end, journal))
-}
-
-fn try_one_walk(
+pub fn one_walk(
     code: &Code,
     image: &mut [u8],
     start: usize,
     end: usize,
     journal: &mut [u8],
-) -> Result<Tally, (usize, usize)> {
-    judge_run(code, image, start, end)?;
+    used: usize,
+    stamp: u32,
+) -> PassAnswer {
+    answer(try_one_walk(code, image, journal, Asked { start, end, used, stamp }))
+}
+
+fn try_one_walk(
+    code: &Code,
+    image: &mut [u8],
+    journal: &mut [u8],
+    asked: Asked,
+) -> Result<(usize, Tally), (usize, usize)> {
+    judge_run(code, image, journal, asked)?;
+    let Asked { start, end, used, stamp } = asked;
     let mut tally = Tally::default();
     let mut found = Vec::new();
     for number in start..end {
@@ -165,11 +199,11 @@ fn try_one_walk(
             found.push((number, reading));
         }
     }
-    if journal.len() / ENTRY < found.len() {
+    if journal.len() / ENTRY - used < found.len() {
         return Err((13, found.len()));
     }
-    for ((number, reading), entry) in found.iter().zip(journal.chunks_exact_mut(ENTRY)) {
-        mend(&mut image[RECORD * number..RECORD * (number + 1)], *number, reading, entry);
+    for ((number, reading), entry) in found.iter().zip(journal.chunks_exact_mut(ENTRY).skip(used)) {
+        mend(&mut image[RECORD * number..RECORD * (number + 1)], *number, reading, stamp, entry);
     }
-    Ok(tally)
+    Ok((used + found.len(), tally))
 }

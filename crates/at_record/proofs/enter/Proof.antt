@@ -5,7 +5,7 @@ use Prim.Native.Nat.{_≤_}
 use native.Mathlib.Omega.{arith}
 use borrow.Author.Needs.{needs}
 use lib.ListN.{length}
-use Rattle.record.specs.Layout.{headBytes}
+use Rattle.record.specs.Layout.{headSize, headBytes}
 use Rattle.runs.proofs.Entries.{length-head}
 use Rattle.at_record.proofs.Entered.{verdict-top, place-fits, three-parts}
 use Rattle.at_record.proofs.enter.Statement.{statement}
@@ -88,11 +88,11 @@ returns c =
     let f = h .before .before .before .before in
     let s = f .before .before .before in
     let a = s .args in
-    let head = h .put-head .ensures ∙ ap (λ x. headBytes (a .n) (x .verdict) (x .place)) (f .finding-of .ensures) in
+    let head = h .put-head .ensures ∙ ap (λ x. headBytes (a .stamp) (a .n) (x .verdict) (x .place)) (f .finding-of .ensures) in
     let left = q .put-bytes2 .ensures ∙ m .mend .ensures in (
       m .mend .ensures,
-      three-parts (a .entry .now) (h .put-head .last .0) (b .put-bytes .last .0) (q .put-bytes2 .last .0) 4 (length (a .rec .now))
-          (ap length head ∙ length-head _ _ _) (ap length (b .put-bytes .ensures)) (search needs) (search needs)
+      three-parts (a .entry .now) (h .put-head .last .0) (b .put-bytes .last .0) (q .put-bytes2 .last .0) headSize (length (a .rec .now))
+          (ap length head ∙ length-head _ _ _ _) (ap length (b .put-bytes .ensures)) (search needs) (search needs)
           ∙ (λ i. head i ++ (b .put-bytes .ensures i ++ left i)),
     )
 

@@ -1,7 +1,7 @@
 -- `desk::desk_pass` meets its contract: an opening, and the question. Assumes nothing.
 use mathlib.Core.Path.{ap, _∙_}
 use Rattle.record.specs.Layout.{dataSize}
-use Rattle.pass.specs.Pass.{After, afterPass}
+use Rattle.pass.specs.Pass.{After, passOver, stateOf, afterPass}
 use borrow.Author.Needs.{needs}
 use Rattle.desk.proofs.desk_pass.Statement.{statement}
 use Rattle.desk.proofs.desk_pass.Tie as tie
@@ -23,7 +23,9 @@ returns c =
     let x = c .before .before .before .before in
     let opened = x .before .before .before in
     let a = opened .before .before .before .args in
-    let e = ap (λ o. afterPass o dataSize (a .image .now) (a .start) (a .end) (a .journal .now)) (opened .open-code .ensures .0) in
+    let told = passOver (a .start) (a .end) (a .stamp) in
+    let held = stateOf (a .image .now) (a .journal .now) (a .used) in
+    let e = ap (λ o. afterPass o dataSize told held) (opened .open-code .ensures .0) in
     let p = x .pass .ensures in
     (p .0 ∙ ap (λ (y : After). y .answer) e, (p .1 .0 ∙ ap (λ (y : After). y .image) e, p .1 .1 ∙ ap (λ (y : After). y .journal) e))
 

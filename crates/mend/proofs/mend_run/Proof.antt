@@ -5,31 +5,30 @@ use Prim.Native.Nat.{ℕ, _*_, _/_, _≤_}
 use native.Mathlib.Omega.{arith}
 use lib.ListN.{length, take, length-take}
 use lib.Seq.{length-take-le}
-use Rattle.record.specs.declared.Tally.{Tally}
-use Rattle.record.specs.Layout.{dataSize, entrySize}
+use Rattle.record.specs.Layout.{dataSize, entrySize, inBytes}
 use Rattle.record.specs.Run.{over}
 use Rattle.code.specs.Opened.{openedOf}
-use Rattle.pass.specs.Pass.{entriesRun}
+use Rattle.pass.specs.Pass.{notedRun, neededRun}
 use Rattle.report.specs.Text.{journalText}
-use Rattle.report.specs.Totals.{entriesIn}
-use Rattle.mend.specs.Mend.{sampleReader, runTally, runLeft, Ready}
+use Rattle.mend.specs.Mend.{sampleReader, runTally, runLeft}
 use Rattle.mend.proofs.Runs.{outcome, few-entries, few-records, run-text}
 use borrow.Author.Needs.{needs}
 use Rattle.mend.proofs.mend_run.Statement.{statement}
 use Rattle.mend.proofs.mend_run.Tie as tie
 
--- where it began, and the pass and the tally, seen from behind the counting of entries
+-- where it began, and the pass, seen from behind it
 abbrev begun : tie.After-pass → tie.Start
 begun c = c .before .before .before .before .before .before .before .before
 
-abbrev pass-of : tie.After-entries-in → tie.After-pass
-pass-of c = c .before .before .before .before .before .before
+abbrev pass-of : tie.After-struct-known → tie.After-pass
+pass-of c = c .before .before .before .before .before
 
 -- what the pass answered, and left behind
 passed : (c : tie.After-pass) → let a = begun c .args in
     (c .pass .result .tally ≡ runTally (a .image .now) (a .start) (a .end))
+    × (c .pass .result .used ≡ neededRun sampleReader (a .image .now) (a .start) (a .end))
     × (c .pass .last .1 .1 .0 ≡ runLeft (a .image .now) (a .start) (a .end))
-    × (c .pass .last .1 .1 .1 .1 .1 .0 ≡ over (entriesRun sampleReader (a .image .now) (a .start) (a .end)) (a .journal .now))
+    × (c .pass .last .1 .1 .1 .1 .1 .0 ≡ over (inBytes (notedRun sampleReader 0 (a .image .now) (a .start) (a .end))) (a .journal .now))
 passed c =
     let s = begun c in
     let a = s .args in
@@ -39,17 +38,16 @@ passed c =
     (opened .open-code .ensures .0 ∙ ap openedOf (opened .before .sample-code .ensures)) (c .pass .ensures)
 
 -- the entries that it wrote are no more than the journal has room for
-few : (c : tie.After-entries-in) → let s = begun (pass-of c) in
-    (entrySize dataSize * c .entries-in .result ≤ length (pass-of c .pass .last .1 .1 .1 .1 .1 .0))
-    × (c .entries-in .result ≤ length (s .args .journal .now) / entrySize dataSize)
+few : (c : tie.After-struct-known) → let p = pass-of c in
+    (entrySize dataSize * p .pass .result .used ≤ length (p .pass .last .1 .1 .1 .1 .1 .0))
+    × (p .pass .result .used ≤ length (begun p .args .journal .now) / entrySize dataSize)
 few c =
     let p = pass-of c in
     let s = begun p in
     let a = s .args in
     let l : length (p .pass .last .1 .1 .1 .1 .1 .0) ≡ length (a .journal .now) = search needs in
-    let n = c .entries-in .ensures in
-    let f = few-entries (a .image .now) (a .start) (a .end) (a .journal .now) (a .lines .now)
-    (s .pre) (p .pass .result .tally) (passed p .0) in
+    let n = passed p .1 in
+    let f = few-entries (a .image .now) (a .start) (a .end) (a .journal .now) (a .lines .now) (s .pre) in
     (omega arith, omega arith)
 
 sample-code-requires : tie.Need-sample-code-requires
@@ -61,17 +59,12 @@ open-code-requires c κs = search needs
 pass-requires : tie.Need-pass-requires
 pass-requires c κs = search needs
 
-entries-in-requires : tie.Need-entries-in-requires
-entries-in-requires c κs = search needs
-
 mul-used : tie.Need-mul-used
 mul-used c =
-    let p = pass-of c in
-    let s = begun p in
+    let s = begun (pass-of c) in
     let a = s .args in
-    let n = c .entries-in .ensures in
-    let f = few-records (a .image .now) (a .start) (a .end) (a .journal .now) (a .lines .now)
-    (s .pre) (p .pass .result .tally) (passed p .0) in
+    let n = passed (pass-of c) .1 in
+    let f = few-records (a .image .now) (a .start) (a .end) (a .journal .now) (a .lines .now) (s .pre) in
     omega arith
 
 slice-reshare-prefix-journal-text : tie.Need-slice-reshare-prefix-journal-text
@@ -106,21 +99,19 @@ same-length-3 c = search needs
 
 returns : tie.Need-returns
 returns c =
-    let t = c .before .before .before .before in
-    let e = t .before .before .before in
-    let p = pass-of e in
+    let t = c .before .before .before .before .before in
+    let p = pass-of (t .before .before .before) in
     let s = begun p in
     let a = s .args in
     let after = passed p in
     let later = p .pass .last .1 .1 .1 .1 .1 .0 in (
       after .0,
       (
-        after .1,
+        after .2,
         t .journal-text .ensures .1 .0
-            ∙ ap (λ (n : ℕ). over (journalText (take (entrySize dataSize * n) later)) (a .lines .now)) (e .entries-in .ensures)
+            ∙ ap (λ (n : ℕ). over (journalText (take (entrySize dataSize * n) later)) (a .lines .now)) (after .1)
             ∙ ap (λ (l : List ℕ). over l (a .lines .now))
-            (run-text (a .image .now) (a .start) (a .end) (a .journal .now) (a .lines .now)
-            (s .pre) (p .pass .result .tally) (after .0) later (after .2)),
+            (run-text (a .image .now) (a .start) (a .end) (a .journal .now) (a .lines .now) (s .pre) later (after .3)),
       ),
     )
 
@@ -131,7 +122,6 @@ mend-run-spec =
     sample-code-requires
     open-code-requires
     pass-requires
-    entries-in-requires
     mul-used
     slice-reshare-prefix-journal-text
     slice-aggregate-journal-text

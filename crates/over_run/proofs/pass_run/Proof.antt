@@ -8,7 +8,7 @@ use native.Mathlib.Nat.{suc-mul, mul-zero}
 use native.Mathlib.Omega.{arith}
 use borrow.Author.Needs.{needs}
 use lib.ListN.{length, take, drop}
-use Rattle.record.specs.Layout.{recordSize, entrySize}
+use Rattle.record.specs.Layout.{recordSize, headSize, entrySize, inBytes}
 use Rattle.record.specs.Run.{recordAt, gather, addUp, over}
 use Rattle.record.specs.Tally.{countedOf, tallyOf}
 use Rattle.record.proofs.Over.{over-all}
@@ -26,19 +26,19 @@ use Rattle.over_run.proofs.pass_run.Statement.{statement}
 use Rattle.over_run.proofs.pass_run.Tie as tie
 
 abbrev Inv-loop : tie.InvT-loop
-Inv-loop columns k rows d run₀ first journal₀ size step n tally₀ used₀ i₀ run journal tally used i =
+Inv-loop columns k rows d run₀ first journal₀ stamp size step n tally₀ used₀ i₀ run journal tally used i =
     let f = reader columns k rows d in
     (i ≤ n)
     × (n ≡ recordsIn d run₀)
     × (run ≡ over (leftTo f run₀ i) run₀)
-    × (journal ≡ over (entriesTo f first run₀ i) journal₀)
+    × (journal ≡ over (inBytes (entriesTo f stamp first run₀ i)) journal₀)
     × (used ≡ entrySize d * countTo f run₀ i)
     × (tally ≡ tallyOf (recordSize d) (verdictOf f) run₀ i)
     × (length run ≡ length run₀)
     × (length journal ≡ length journal₀)
 
 abbrev μ-loop : tie.MeasureT-loop
-μ-loop columns k rows d run₀ first journal₀ size step n tally₀ used₀ i₀ run journal tally used i = n - i
+μ-loop columns k rows d run₀ first journal₀ stamp size step n tally₀ used₀ i₀ run journal tally used i = n - i
 
 -- from the loop's head: the arguments, what they are read with, the run at the start, and the record that is reached
 abbrev start : tie.At-loop Inv-loop μ-loop → tie.Start Inv-loop μ-loop
@@ -135,7 +135,7 @@ new-requires : tie.Need-new-requires Inv-loop μ-loop
 new-requires c κs = search needs
 
 loop-holds : tie.Need-loop-holds Inv-loop μ-loop
-unfolding gather addUp
+unfolding gather addUp inBytes
 loop-holds c =
     let d = c .before .before .before .before .args .d in
     (omega arith, refl, refl, refl, sym (mul-zero (entrySize d)), c .new .ensures, refl, refl)
@@ -236,8 +236,8 @@ loop-again c =
       refl,
       left-next (with h) (run₀ h) (m .i) within (m .run) (width h) (m .inv .2) (omega arith)
           (e .enter .last .0) (l .look .result) (found l) (e .enter .ensures .0),
-      entries-next (with h) (run₀ h) (m .i) within (a .first) (a .journal .now) (m .journal) (e .enter .last .1 .0)
-          (m .used) (m .used + (4 + 2 * size h) - m .used)
+      entries-next (with h) (run₀ h) (m .i) within (a .stamp) (a .first) (a .journal .now) (m .journal) (e .enter .last .1 .0)
+          (m .used) (m .used + (headSize + 2 * size h) - m .used)
           (l .look .result) _ (not-clean t) (m .inv .3) (m .inv .4) (omega arith) (found l) (as-it-was l) (e .enter .ensures .1),
       omega (arith, used-next (with h) (run₀ h) (m .i) within (m .used) (m .inv .4) (not-clean t)),
       tally-next (t .before),
@@ -259,8 +259,8 @@ loop-again-2 c =
       refl,
       left-clean (with h) (run₀ h) (m .i) (fits (inside l)) (m .run) (m .inv .2) clean,
       m .inv .3
-          ∙ ap (λ p. over p (a .journal .now))
-          (sym (entries-clean (size h) (verdictOf (with h)) (run₀ h) (m .i) (entryOf (with h)) (a .first) clean)),
+          ∙ ap (λ p. over (inBytes p) (a .journal .now))
+          (sym (entries-clean (size h) (verdictOf (with h)) (run₀ h) (m .i) (entryOf (with h) (a .stamp)) (a .first) clean)),
       m .inv .4 ∙ ap (λ n. entrySize (a .d) * n) (sym (needed-clean (size h) (verdictOf (with h)) (run₀ h) (m .i) clean)),
       tally-next (c .before),
       m .inv .6,

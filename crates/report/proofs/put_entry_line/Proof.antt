@@ -2,31 +2,37 @@
 use mathlib.Core.Path.{refl, sym, ap}
 use Prim.Native.Nat.{_+_}
 use native.Mathlib.Omega.{arith}
+use borrow.Author.Needs.{needs}
 use lib.ListN.{length, length-take}
-use lib.Seq.{length-take-le}
-use Rattle.record.specs.Layout.{numberSize}
+use Rattle.record.specs.Layout.{stampSize, numberSize}
 use Rattle.report.specs.Text.{codes, holesIn, entryLine}
 use Rattle.report.proofs.Lines.{line-is, line-short}
 use Rattle.report.proofs.put_entry_line.Statement.{statement}
 use Rattle.report.proofs.put_entry_line.Tie as tie
 
-slice-aggregate-number : tie.Need-slice-aggregate-number
-slice-aggregate-number c = sym (length-take-le numberSize (c .before .before .before .args .entry .now) (omega arith))
+sub-number : tie.Need-sub-number
+sub-number c = search needs
+
+part-number-start : tie.Need-part-number-start
+part-number-start c = search needs
+
+part-number-end : tie.Need-part-number-end
+part-number-end c = search needs
 
 number-requires : tie.Need-number-requires
-number-requires c κs = simp length-take (omega arith)
+number-requires c κs = search needs
 
 shared-slice-read-verdict : tie.Need-shared-slice-read-verdict
 shared-slice-read-verdict c = omega arith
 
 cast-verdict : tie.Need-cast-verdict
-cast-verdict c = omega (arith, c .shared-slice-known2 .given numberSize)
+cast-verdict c = omega (arith, c .shared-slice-known2 .given (stampSize + numberSize))
 
 shared-slice-read-place : tie.Need-shared-slice-read-place
 shared-slice-read-place c = omega arith
 
 cast-place : tie.Need-cast-place
-cast-place c = omega (arith, c .shared-slice-known3 .given (numberSize + 1))
+cast-place c = omega (arith, c .shared-slice-known3 .given (stampSize + numberSize + 1))
 
 slice-aggregate-put-filled : tie.Need-slice-aggregate-put-filled
 slice-aggregate-put-filled c = refl
@@ -62,7 +68,9 @@ pub put-entry-line-spec : {M : Type 1} → statement M
 put-entry-line-spec =
     tie.close
     (tie.spec
-    slice-aggregate-number
+    sub-number
+    part-number-start
+    part-number-end
     number-requires
     shared-slice-read-verdict
     cast-verdict

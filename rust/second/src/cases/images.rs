@@ -2,17 +2,25 @@
 
 use super::{Cases, HUGE};
 use crate::code::Code;
-use crate::pass::{pass, ENTRY, IMAGE, RECORD};
+use crate::pass::{pass, stamp_of, Pass, ENTRY, IMAGE, RECORD};
 use crate::program::sample_code;
 
-/// An image under a code, a run, and a filled journal.
+/// An image under a code, a filled journal, and what a pass is told.
 #[derive(Clone, Debug)]
 pub struct ImageCase {
     pub code: Code,
     pub image: Vec<u8>,
-    pub start: usize,
-    pub end: usize,
     pub journal: Vec<u8>,
+    pub asked: Pass,
+}
+
+/// An image and a journal of which no entry is in use, and passes that follow one another: code, start, end and stamp each.
+/// The count in use is the one that the desk handed back last.
+#[derive(Clone, Debug)]
+pub struct TurnsCase {
+    pub image: Vec<u8>,
+    pub journal: Vec<u8>,
+    pub turns: Vec<(Code, usize, usize, u32)>,
 }
 
 impl Cases {
@@ -20,8 +28,12 @@ impl Cases {
         let code = self.serving_code(2);
         let image = self.image_under(&code);
         let (start, end) = self.run(image.len() / RECORD);
-        let journal = self.journal(&code, &image, start, end);
-        ImageCase { code, image, start, end, journal }
+        let meant = self.used_before();
+        let length = self.journal_length(meant + Cases::needed(&code, &image, start, end));
+        let used = self.told_used(meant, length / ENTRY);
+        let journal = self.filled_journal(length, used);
+        let stamp = self.stamp_after(&journal[..ENTRY * used.min(length / ENTRY)]);
+        ImageCase { code, image, journal, asked: Pass { start, end, used, stamp } }
     }
 
     /// What the program may be given: an image of the sample code, of any length.
@@ -76,20 +88,105 @@ impl Cases {
         }
     }
 
-    /// A filled journal: exact, short, odd, overlong, or none.
-    fn journal(&mut self, code: &Code, image: &[u8], start: usize, end: usize) -> Vec<u8> {
-        let mut ample = vec![0; image.len() / RECORD * ENTRY];
-        let needed: usize = pass(code, &mut image.to_vec(), start, end, &mut ample).tally[1..].iter().sum();
-        let exact = ENTRY * needed;
-        let length = match self.random.below(10) {
-            0..=2 => exact,
-            3 => exact.saturating_sub(1),
-            4 => exact.saturating_sub(ENTRY),
-            5 => exact + self.random.pick(&[1, 2, ENTRY / 2, ENTRY - 1]),
-            6 => self.random.below(exact + 1),
-            7 => 0,
+    /// How many entries are in use before a pass: often none or few.
+    fn used_before(&mut self) -> usize {
+        match self.random.below(8) {
+            0..=2 => 0,
+            3 => 1,
+            4 => 2,
+            _ => self.random.below(20),
+        }
+    }
+
+    /// A journal's length for so many entries: exact, short, odd, overlong, or none.
+    fn journal_length(&mut self, entries: usize) -> usize {
+        let exact = ENTRY * entries;
+        match self.random.below(12) {
+            0..=4 => exact,
+            5 => exact.saturating_sub(1),
+            6 => exact.saturating_sub(ENTRY),
+            7 => exact + self.random.pick(&[1, 2, ENTRY / 2, ENTRY - 1]),
+            8 => self.random.below(exact + 1),
+            9 => self.random.pick(&[0, 0, 1, ENTRY - 1]),
             _ => exact + self.random.below(200),
-        };
-        self.random.bytes(length)
+        }
+    }
+
+    /// A count in use that is told of a journal with this room: mostly the one that is meant, else an edge or any.
+    fn told_used(&mut self, meant: usize, room: usize) -> usize {
+        match self.random.below(16) {
+            0 => room,
+            1 => room + 1,
+            2 => room + 1 + self.random.below(5),
+            3 => self.random.pick(&HUGE),
+            4 => self.random.below(room + 1),
+            _ => meant.min(room),
+        }
+    }
+
+    /// A stamp such that edges are met: 0, the highest, a single byte, any.
+    fn any_stamp(&mut self) -> u32 {
+        let any = self.random.draw() as u32;
+        let byte = 1 << (8 * self.random.below(4));
+        self.random.pick(&[0, 1, u32::MAX, byte, byte - 1, any, any, any])
+    }
+
+    /// A stamp against the entries in use: the last one's, next to it, the first one's, its bytes the other way round, any.
+    fn stamp_after(&mut self, in_use: &[u8]) -> u32 {
+        let any = self.any_stamp();
+        let stamp_at = |entry: Option<&[u8]>| entry.map_or(any, stamp_of);
+        let last = stamp_at(in_use.chunks_exact(ENTRY).last());
+        let first = stamp_at(in_use.chunks_exact(ENTRY).next());
+        match self.random.below(10) {
+            0..=2 => last,
+            3 => last.wrapping_add(1),
+            4 => last.wrapping_sub(1),
+            5 => first,
+            6 => last.swap_bytes(),
+            7 => u32::MAX,
+            _ => any,
+        }
+    }
+
+    /// A journal filled with anything; of the entries in use the first and the last often have a stamp that is an edge.
+    fn filled_journal(&mut self, length: usize, used: usize) -> Vec<u8> {
+        let mut journal = self.random.bytes(length);
+        let room = length / ENTRY;
+        for at in [0, used.saturating_sub(1)] {
+            if at < room && self.random.once_in(2) {
+                let stamp = self.any_stamp();
+                journal[ENTRY * at..ENTRY * at + 4].copy_from_slice(&stamp.to_le_bytes());
+            }
+        }
+        journal
+    }
+
+    /// The entries that a run needs, 0 where the pass is refused anyhow.
+    fn needed(code: &Code, image: &[u8], start: usize, end: usize) -> usize {
+        let mut ample = vec![0; image.len() / RECORD * ENTRY];
+        pass(code, &mut image.to_vec(), &mut ample, &Pass { start, end, used: 0, stamp: 0 }).used
+    }
+
+    /// Passes that follow one another in one journal, under one code or now and then another.
+    pub fn turns(&mut self) -> TurnsCase {
+        let code = self.serving_code(2);
+        let records = self.random.below(30);
+        let words = (0..records).map(|_| self.word_under(&code)).collect::<Vec<_>>();
+        let image: Vec<u8> =
+            words.iter().flat_map(|word| [&word.data.to_le_bytes()[..], &word.check.to_le_bytes()].concat()).collect();
+        let length = self.journal_length(2 * Cases::needed(&code, &image, 0, records));
+        let journal = self.random.bytes(length);
+        let mut stamp = if self.random.once_in(2) { 0 } else { self.any_stamp() };
+        let turns = (0..2 + self.random.below(5)).map(|_| {
+            let code = if self.random.once_in(8) { self.code() } else { code };
+            let (start, end) = self.run(records);
+            stamp = match self.random.below(8) {
+                0..=3 => stamp,
+                4 => self.any_stamp(),
+                _ => stamp.saturating_add(self.random.below(300) as u32),
+            };
+            (code, start, end, stamp)
+        });
+        TurnsCase { turns: turns.collect(), image, journal }
     }
 }

@@ -13,7 +13,7 @@ use crate::word::Accepted;
 use std::rc::Rc;
 
 pub use codes::asked_shapes;
-pub use images::ImageCase;
+pub use images::{ImageCase, TurnsCase};
 pub use stations::edges;
 pub use words::{CardCase, ListCase, WordCase};
 

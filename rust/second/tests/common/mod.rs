@@ -1,7 +1,7 @@
 //! Short forms for the tests.
 #![allow(dead_code)]
 
-use second::{CardsChecked, Code, Explained, Judged, Passed, Reading, Written};
+use second::{CardsChecked, Code, Explained, Judged, Pass, Passed, Reading, Written};
 
 pub const NONE: usize = 255;
 
@@ -47,12 +47,18 @@ pub fn cards_refused(number: usize, told: usize) -> CardsChecked {
     CardsChecked { number, told, card: 0, mask: 0 }
 }
 
-pub fn pass_done(tally: [usize; 6]) -> Passed {
-    Passed { number: 0, told: 0, tally }
+/// A pass with the stamp 0 over this run, in a journal of which nothing is in use.
+pub fn over(start: usize, end: usize) -> Pass {
+    Pass { start, end, used: 0, stamp: 0 }
+}
+
+/// A done pass after which so many entries are in use.
+pub fn pass_done(used: usize, tally: [usize; 6]) -> Passed {
+    Passed { number: 0, told: 0, used, tally }
 }
 
 pub fn pass_refused(number: usize, told: usize) -> Passed {
-    Passed { number, told, tally: [0; 6] }
+    Passed { number, told, used: 0, tally: [0; 6] }
 }
 
 /// The sample code with column `place` put to `column`.
