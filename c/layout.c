@@ -15,6 +15,7 @@ int main(void) {
     SIZE(IMAGE);
     SIZE(LONGEST_LIST);
     SIZE(NO_PLACE);
+    SIZE(NO_BYTE);
     STRUCT(Code);
     FIELD(Code, columns);
     FIELD(Code, k);
@@ -73,5 +74,16 @@ int main(void) {
     STRUCT(Made);
     FIELD(Made, number);
     FIELD(Made, code);
+    STRUCT(ByteNumber);
+    STRUCT(ByteWriting);
+    FIELD(ByteWriting, number);
+    FIELD(ByteWriting, told);
+    FIELD(ByteWriting, word);
+    STRUCT(ByteReading);
+    FIELD(ByteReading, number);
+    FIELD(ByteReading, told);
+    FIELD(ByteReading, verdict);
+    FIELD(ByteReading, byte);
+    FIELD(ByteReading, word);
     return 0;
 }

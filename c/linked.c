@@ -304,6 +304,52 @@ static void made_fields(void) {
            makes_nothing(desk_make(12, 5), DESK_COLUMN_ROOM) && makes_nothing(desk_make(64, 3), DESK_COLUMN_ROOM));
 }
 
+static int same_bytes(DeskByteReading a, size_t number, size_t verdict, size_t byte, uint64_t word) {
+    return a.number == number && a.told == 0 && a.verdict == verdict && a.byte.number == byte && a.word == word;
+}
+
+static int same_written(DeskByteWriting a, size_t number, uint64_t word) {
+    return a.number == number && a.told == 0 && a.word == word;
+}
+
+/* The word written for 8, a single one in data byte 1, with the bits of a pattern flipped in one byte. */
+static uint64_t spoilt(uint64_t pattern, size_t byte) {
+    return 572522504 ^ pattern << 3 * byte;
+}
+
+static void byte_fields(void) {
+    expect("desk_byte_write: every field", same_written(desk_byte_write(8), DESK_DONE, 572522504));
+    expect("desk_byte_write: the seventh data byte", same_written(desk_byte_write(262144), DESK_DONE, 1025769472));
+    expect("desk_byte_write: all data bits", same_written(desk_byte_write(2097151), DESK_DONE, 16777215));
+    expect("desk_byte_read: clean",
+           same_bytes(desk_byte_read(572522504), DESK_DONE, DESK_BYTE_CLEAN, DESK_NO_BYTE, 572522504));
+    int found = 1, flagged = 1;
+    for (size_t t = 0; t < 10; t++) {
+        size_t verdict = t < 7 ? DESK_BYTE_DATA : DESK_BYTE_CHECK;
+        for (uint64_t pattern = 1; pattern < 8; pattern++) {
+            found &= same_bytes(desk_byte_read(spoilt(pattern, t)), DESK_DONE, verdict, t, 572522504);
+            for (size_t s = 0; s < t; s++) {
+                uint64_t twice = spoilt(pattern, t) ^ (uint64_t)5 << 3 * s;
+                flagged &= same_bytes(desk_byte_read(twice), DESK_DONE, DESK_BYTE_FLAGGED, DESK_NO_BYTE, twice);
+            }
+        }
+    }
+    expect("desk_byte_read: every pattern in every byte is put right", found);
+    expect("desk_byte_read: a second byte wrong, and it is flagged and left", flagged);
+}
+
+static void byte_refusals(void) {
+    int refused = 1;
+    for (size_t bit = 21; bit < 64; bit++) {
+        refused &= same_written(desk_byte_write(8 | (uint64_t)1 << bit), DESK_STRAY_BITS, 0);
+    }
+    expect("refused by 7: a data bit at 21 or above", refused);
+    for (size_t bit = 30; bit < 64; bit++) {
+        refused &= same_bytes(desk_byte_read(8 | (uint64_t)1 << bit), DESK_STRAY_BITS, 0, 0, 0);
+    }
+    expect("refused by 7: a bit at 30 or above, with byte number 0", refused);
+}
+
 int main(void) {
     version();
     code_fields();
@@ -317,5 +363,7 @@ int main(void) {
     sheet_fields();
     sheet_refusals();
     made_fields();
+    byte_fields();
+    byte_refusals();
     return finish();
 }

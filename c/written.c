@@ -25,6 +25,8 @@ void desk_sheet_ceiling(void *answer, double hours, size_t devices, size_t words
 void desk_sheet_band(void *answer, double hours, size_t devices, size_t words, size_t mended, double low, double high);
 void desk_sheet_open(void *answer, double hours, size_t devices, size_t words, size_t mended);
 void desk_make(void *answer, size_t k, size_t r);
+void desk_byte_write(void *answer, uint64_t data);
+void desk_byte_read(void *answer, uint64_t word);
 
 static const Code sample = {.columns = {28, 26, 25, 22, 21, 19, 14, 13}, .k = 8, .r = 5};
 
@@ -49,6 +51,8 @@ static void band_to(void *answer) { desk_sheet_band(answer, 667, 8192, 4, 1, 0.5
 static void open_to(void *answer) { desk_sheet_open(answer, 0, 8192, 4, 1); }
 static void make_to(void *answer) { desk_make(answer, 8, 5); }
 static void refused_make_to(void *answer) { desk_make(answer, 12, 5); }
+static void byte_write_to(void *answer) { desk_byte_write(answer, 8); }
+static void byte_read_to(void *answer) { desk_byte_read(answer, 573833224); }
 
 enum { GUARD = 64, LARGEST = 152 };
 
@@ -88,5 +92,7 @@ int main(void) {
     expect("desk_sheet_open writes its fields where it refuses too, and no other", writes_sheet(open_to));
     expect("desk_make writes all 152 bytes of its answer, and no other", writes_only(make_to, 0, 152, 152));
     expect("desk_make writes all of them where it refuses too", writes_only(refused_make_to, 0, 152, 152));
+    expect("desk_byte_write writes all 24 bytes of its answer, and no other", writes_only(byte_write_to, 0, 24, 24));
+    expect("desk_byte_read writes all 40 bytes of its answer, and no other", writes_only(byte_read_to, 0, 40, 40));
     return finish();
 }

@@ -18,6 +18,8 @@
  *
  * Time. A pass's stamp is any number that does not fall along a journal; what it counts is the caller's affair.
  *
+ * Bytes of three bits. The `byte` of DeskByteReading is the number of such a byte, and no place.
+ *
  * Figures. `hours`, and `device` and `station` of a sheet, are hours. `share`, `low` and `high` are parts of 1.
  *
  * Lent buffers. Each must be valid for its length, to read and to write. Those that one call is lent must not overlap:
@@ -60,7 +62,8 @@ enum DeskNumber {
     DESK_SINGLE_ONE = 5,      /* a data column has a single one; told: place */
     DESK_REPEATED_COLUMN = 6, /* a column equals an earlier data column; told: place */
     DESK_STRAY_BITS = 7,      /* single word: a data bit at k or above, or a check bit at r or above, is set
-                                 (writing: data only) */
+                                 (writing: data only); word of ten bytes: a bit at 30 or above (writing: a data bit at
+                                 21 or above) */
     DESK_CARD_SIZE = 8,       /* b below 2 or over 8 */
     DESK_WEAK_CARD = 9,       /* code not card-proof for b; told: card, mask */
     DESK_LIST_ROOM = 10,      /* list longer than its room; told: list's length */
@@ -88,7 +91,16 @@ enum DeskVerdict {
     DESK_STRAY = 5  /* in a pass only: a bit past k or past r is set; the record stays */
 };
 
+/* The field `verdict` of a word of ten bytes. */
+enum DeskByteVerdict {
+    DESK_BYTE_CLEAN = 0,  /* nothing is wrong */
+    DESK_BYTE_DATA = 1,   /* one data byte was wrong, and is put right */
+    DESK_BYTE_CHECK = 2,  /* one check byte was wrong, and is put right */
+    DESK_BYTE_FLAGGED = 3 /* no error within one byte explains it: the word as read */
+};
+
 #define DESK_NO_PLACE 255     /* the place of a reading or an entry that has none */
+#define DESK_NO_BYTE 255      /* the number of a byte where none is named */
 #define DESK_COLUMNS 64       /* column places of a code */
 #define DESK_ROWS 16          /* rows of a balance */
 #define DESK_LONGEST_LIST 80  /* bytes that hold any list of explanations */
@@ -197,6 +209,30 @@ typedef struct DeskMade {
     DeskCode code;
 } DeskMade;
 
+/*
+ * The number of a byte of three bits in a word of ten: 0 to 6 are data bytes, 7 to 9 check bytes. It is a type of its
+ * own, so that the compiler refuses it where a place is wanted, and a place where it is.
+ */
+typedef struct DeskByteNumber {
+    size_t number;
+} DeskByteNumber;
+
+/* The answer of desk_byte_write: the whole word. */
+typedef struct DeskByteWriting {
+    size_t number;
+    size_t told;
+    uint64_t word;
+} DeskByteWriting;
+
+/* The answer of desk_byte_read: a verdict (0 to 3), a byte, and the word that is handed back. */
+typedef struct DeskByteReading {
+    size_t number;
+    size_t told;
+    size_t verdict;
+    DeskByteNumber byte;
+    uint64_t word;
+} DeskByteReading;
+
 /* The version of the archive: DESK_VERSION of the header that goes with it. */
 size_t desk_version(void);
 
@@ -258,6 +294,17 @@ DeskSheetAnswer desk_sheet_open(double hours, size_t devices, size_t words, size
  * r is below the check bits wanted for k.
  */
 DeskMade desk_make(size_t k, size_t r);
+
+/*
+ * Words of ten bytes of three bits, which outlive a whole failed card: byte t is bits 3t to 3t + 2, data bytes 0 to 6,
+ * check bytes 7 to 9. An error within one byte is put right, one within two bytes is flagged. Both refuse with 7 alone.
+ */
+
+/* The word of 30 bits with these data bits, which are its bits 0 to 20. */
+DeskByteWriting desk_byte_write(uint64_t data);
+
+/* What is in the word as read, and the word put right where an error within one byte explains it. */
+DeskByteReading desk_byte_read(uint64_t word);
 
 #ifdef __cplusplus
 }

@@ -9,6 +9,7 @@ use Rattle.demands.proofs.OfCards as cards
 use Rattle.demands.proofs.OfPasses as passes
 use Rattle.demands.proofs.OfSheets as sheets
 use Rattle.demands.proofs.OfMaking as making
+use Rattle.demands.proofs.OfBytes as bytes
 
 pub sizes : demands.Sizes
 sizes = tallies.sizes
@@ -200,3 +201,47 @@ made-least = making.made-least-code
 
 pub making-wanted : demands.MakingWanted
 making-wanted = making.making-wanted
+
+-- ---- words of ten bytes
+
+pub matrix-t : demands.MatrixT
+matrix-t = bytes.matrix-t
+
+pub order-of-t : demands.OrderOfT
+order-of-t = bytes.order-of-t
+
+pub sums-inverted : demands.SumsInverted
+sums-inverted = bytes.sums-inverted
+
+pub byte-writing-refuses : demands.ByteWritingRefuses
+byte-writing-refuses = bytes.byte-writing-refuses
+
+pub byte-word : demands.ByteWord
+byte-word = bytes.byte-word
+
+pub byte-checks : demands.ByteChecks
+byte-checks = bytes.byte-checks
+
+pub byte-reading-refuses : demands.ByteReadingRefuses
+byte-reading-refuses = bytes.byte-reading-refuses
+
+pub byte-steps : demands.ByteSteps
+byte-steps = bytes.byte-steps
+
+pub byte-clean : demands.ByteClean
+byte-clean = bytes.byte-clean
+
+pub byte-left : demands.ByteLeft
+byte-left = bytes.byte-left
+
+pub byte-mended : demands.ByteMended
+byte-mended = bytes.byte-mended
+
+pub byte-samples : demands.ByteSamples
+byte-samples = bytes.byte-samples
+
+pub byte-one : demands.ByteOne
+byte-one = bytes.byte-one
+
+pub byte-two : demands.ByteTwo
+byte-two = bytes.byte-two

@@ -9,4 +9,5 @@ pub mod OfCards
 pub mod OfTallies
 pub mod OfPasses
 pub mod OfSheets
+pub mod OfBytes
 pub mod Demands

@@ -1,13 +1,13 @@
 -- THE DEMANDS: what the desk promises of its exported functions, each a named proposition, proved in proofs/Demands.antt. Numbers, values
 -- and words are document 01's. Definitions.antt beside this page has the words used here, crate desk's Answers.antt what each function
 -- answers. In order: records and entries; the code; writing and reading one word; explanations; cards; the tally; the pass;
--- station sheets (02's request 107; their words in Sheets.antt); making a code (02's request 101; its words in Making.antt).
--- Assumes nothing.
+-- station sheets (02's request 107; their words in Sheets.antt); making a code (02's request 101; its words in Making.antt); words of ten
+-- bytes (02's request 114; theirs in Bytes.antt). Assumes nothing.
 use mathlib.Core.Path.{_≡_}
 use mathlib.Core.Logic.{_≢_, _⊎_, _↔_}
 use mathlib.Core.Bool.{true, false, cond}
 use mathlib.Core.List.{List, [], _∷_, _++_, List·Memᴰ}
-use Prim.Native.Nat.{ℕ, _+_, _-_, _*_, _/_, _^_, _≤_, _<_, min, max}
+use Prim.Native.Nat.{ℕ, _+_, _-_, _*_, _/_, _%_, _^_, _≤_, _<_, min, max}
 use lib.Bits.{bitXor}
 use lib.Count.{ones}
 use lib.Dec.{eqb, ltb}
@@ -39,7 +39,11 @@ use Rattle.passes.specs.Twice.{added, tallyAgain}
 use Rattle.sheet.specs.Sheets.{Asked}
 use Rattle.sheet.specs.Rule.{NoSheet, Stands, Within}
 use Rattle.sheets.specs.Nearest.{zeroFloat, oneFloat, Held, NearestOnly}
-use Rattle.desk.specs.Answers.{checkBitsOf, judgementOf, rowsOf, writtenOf, readOf, explainedOf, cardsOf}
+use Rattle.byte_code.specs.Vectors.{timesT, powerT}
+use Rattle.byte_code.specs.Parts.{byteAt, partsOf}
+use Rattle.byte_code.specs.Reading.{byteNumber}
+use Rattle.byte_errors.specs.Steps.{damaged, NoError, CheckError, DataError, NoStep}
+use Rattle.desk.specs.Answers.{checkBitsOf, judgementOf, rowsOf, writtenOf, readOf, explainedOf, cardsOf, byteWritten, byteRead}
 use Rattle.demands.specs.Definitions.{Handed, Stored, Accepted, Refused, dataColumns, placesOf, Unstrayed, read, HandsBack, Clean}
 use Rattle.demands.specs.Definitions.{explanations, explanationsOf, told, onlyNumber, refusedRows, refusedWriting, refusedReading, refusedListing}
 use Rattle.demands.specs.Definitions.{cardsFor, refusedCards, allZero, PassRefused, recordOf, entryAt, room, needed, readAt, verdictOf, placeFor}
@@ -50,6 +54,7 @@ use Rattle.demands.specs.Sheets.{sheetFor, noFigures}
 use Rattle.least.specs.Order.{Before}
 use Rattle.desk.specs.Answers.{madeOf}
 use Rattle.demands.specs.Making.{IsMade, noCode}
+use Rattle.demands.specs.Bytes.{IsByte, Pattern, handing}
 
 -- ---- records and entries
 
@@ -576,3 +581,113 @@ MadeLeast =
 -- Within the limits, 15 exactly when r is below the check bits wanted for k.
 abbrev pub MakingWanted : Type 0
 MakingWanted = (k r : ℕ) → Limits 64 k r → (madeOf k r .number ≡ 15) ↔ (r < checkBitsOf k .bits)
+
+-- ---- words of ten bytes
+
+-- T takes (b0, b1, b2) to (b2, b0 + b2, b1), sums without carry.
+abbrev pub MatrixT : Type 0
+MatrixT =
+    (b0 b1 b2 : ℕ) → b0 < 2 → b1 < 2 → b2 < 2
+    → timesT (b0 + b1 * 2 + b2 * 4) ≡ b2 + (b0 + b2) % 2 * 2 + b1 * 4
+
+-- Its order is 7: the seventh power changes no vector, an earlier one every vector but zero.
+abbrev pub OrderOfT : Type 0
+OrderOfT =
+    (v : ℕ) → v < 8 → (powerT 7 v ≡ v) × ((i : ℕ) → 1 ≤ i → i < 7 → powerT i v ≡ v → v ≡ 0)
+
+-- A sum of two different powers is inverted by a power.
+abbrev pub SumsInverted : Type 0
+SumsInverted =
+    (i j : ℕ) → i < 7 → j < 7 → i ≢ j
+    → (k : ℕ)
+    × ((v : ℕ) → v < 8
+    → (powerT k (bitXor (powerT i v) (powerT j v)) ≡ v) × (bitXor (powerT i (powerT k v)) (powerT j (powerT k v)) ≡ v))
+
+-- Refusal 7 in writing, exactly for a data bit at 21 or above.
+abbrev pub ByteWritingRefuses : Type 0
+ByteWritingRefuses =
+    (d : ℕ)
+    → (2 ^ 21 ≤ d → byteWritten d ≡ record { number = 7; told = 0; word = 0 })
+    × (d < 2 ^ 21 → (byteWritten d .number ≡ 0) × (byteWritten d .told ≡ 0))
+
+-- The word written has 30 bits, the data in bits 0 to 20, and three parts that are zero; no other word has.
+abbrev pub ByteWord : Type 0
+ByteWord =
+    (d : ℕ) → d < 2 ^ 21
+    → let w = byteWritten d .word in
+    (w < 2 ^ 30) × (w % 2 ^ 21 ≡ d) × NoError (partsOf w)
+    × ((v : ℕ) → v < 2 ^ 30 → v % 2 ^ 21 ≡ d → NoError (partsOf v) → v ≡ w)
+
+-- Its check bytes: data byte i goes as it is into byte 7, under the power i of T into byte 8, under the power 2i into byte 9; sums of data
+-- give sums of words.
+abbrev pub ByteChecks : Type 0
+ByteChecks =
+    ((i v : ℕ) → i < 7 → v < 8
+    → byteWritten (v * 2 ^ (3 * i)) .word ≡ v * 2 ^ (3 * i) + 2 ^ 21 * v + 2 ^ 24 * powerT i v + 2 ^ 27 * powerT (2 * i) v)
+    × ((d e : ℕ) → d < 2 ^ 21 → e < 2 ^ 21 → byteWritten (bitXor d e) .word ≡ bitXor (byteWritten d .word) (byteWritten e .word))
+
+-- Refusal 7 in reading, exactly for a bit at 30 or above; its byte number is 0.
+abbrev pub ByteReadingRefuses : Type 0
+ByteReadingRefuses =
+    (w : ℕ)
+    → (2 ^ 30 ≤ w → byteRead w ≡ record { number = 7; told = 0; verdict = 0; byte = byteNumber 0; word = 0 })
+    × (w < 2 ^ 30 → (byteRead w .number ≡ 0) × (byteRead w .told ≡ 0))
+
+-- Every word gets one verdict of the four, each exactly when its step says so, and verdicts 1 and 2 the byte of their step.
+abbrev pub ByteSteps : Type 0
+ByteSteps =
+    (w : ℕ) → w < 2 ^ 30
+    → let a = byteRead w in
+    let s = partsOf w in
+    ((a .verdict ≡ 0) ↔ NoError s)
+    × ((i : ℕ) → ((a .verdict ≡ 1) × (a .byte ≡ byteNumber i)) ↔ DataError s i)
+    × ((t : ℕ) → ((a .verdict ≡ 2) × (a .byte ≡ byteNumber t)) ↔ CheckError s t)
+    × ((a .verdict ≡ 3) ↔ NoStep s)
+    × (a .verdict ≤ 3)
+
+-- Clean exactly when writing the data gives the word.
+abbrev pub ByteClean : Type 0
+ByteClean = (w : ℕ) → w < 2 ^ 30 → (byteRead w .verdict ≡ 0) ↔ (byteWritten (w % 2 ^ 21) .word ≡ w)
+
+-- Verdicts 0 and 3 give byte number 255 and the word as read.
+abbrev pub ByteLeft : Type 0
+ByteLeft =
+    (w : ℕ) → w < 2 ^ 30 → (byteRead w .verdict ≡ 0) ⊎ (byteRead w .verdict ≡ 3)
+    → (byteRead w .byte ≡ byteNumber 255) × (byteRead w .word ≡ w)
+
+-- Verdicts 1 and 2 give a clean word, the same as that read but for the byte that is named.
+abbrev pub ByteMended : Type 0
+ByteMended =
+    (w : ℕ) → w < 2 ^ 30 → (byteRead w .verdict ≡ 1) ⊎ (byteRead w .verdict ≡ 2)
+    → let put = byteRead w .word in
+    (put < 2 ^ 30) × (byteRead put .verdict ≡ 0)
+    × ((t : ℕ) → byteNumber t ≢ byteRead w .byte → byteAt put t ≡ byteAt w t)
+
+-- In numbers: what is written for a single one in byte 0, 1 and 6 and for all ones; a word read clean, and wrong in bytes 0, 6, 7, 8 and
+-- 9; and words that are wrong in two bytes and more.
+abbrev pub ByteSamples : Type 0
+ByteSamples =
+    (byteWritten 1 .word ≡ 153092097) × (byteWritten 8 .word ≡ 572522504)
+    × (byteWritten 262144 .word ≡ 1025769472) × (byteWritten 2097151 .word ≡ 16777215)
+    × (byteRead 572522504 ≡ handing 0 255 572522504)
+    × (byteRead 572522505 ≡ handing 1 0 572522504) × (byteRead 573833224 ≡ handing 1 6 572522504)
+    × (byteRead 574619656 ≡ handing 2 7 572522504) × (byteRead 555745288 ≡ handing 2 8 572522504)
+    × (byteRead 706740232 ≡ handing 2 9 572522504)
+    × (byteRead 9 ≡ handing 3 255 9) × (byteRead 2097153 ≡ handing 3 255 2097153)
+    × (byteRead 16777217 ≡ handing 3 255 16777217) × (byteRead 134217729 ≡ handing 3 255 134217729)
+    × (byteRead 18874368 ≡ handing 3 255 18874368) × (byteRead 150994944 ≡ handing 3 255 150994944)
+    × (byteRead 1073741823 ≡ handing 3 255 1073741823)
+
+-- Any error within one byte is found, named and put right.
+abbrev pub ByteOne : Type 0
+ByteOne =
+    (d t v : ℕ) → d < 2 ^ 21 → IsByte t → Pattern v
+    → let w = byteWritten d .word in
+    (t < 7 → byteRead (damaged w t v) ≡ handing 1 t w) × (7 ≤ t → byteRead (damaged w t v) ≡ handing 2 t w)
+
+-- Any error within two different bytes is flagged, and the word left as read.
+abbrev pub ByteTwo : Type 0
+ByteTwo =
+    (d s t u v : ℕ) → d < 2 ^ 21 → IsByte s → IsByte t → s ≢ t → Pattern u → Pattern v
+    → let w = damaged (damaged (byteWritten d .word) s u) t v in
+    byteRead w ≡ handing 3 255 w

@@ -1,4 +1,5 @@
 pub mod Definitions
 pub mod Sheets
 pub mod Making
+pub mod Bytes
 pub mod Demands

@@ -1,5 +1,5 @@
--- What each exported function answers: the question that its layer defines, asked of the opened code; a sheet and the maker have none.
--- Assumes nothing.
+-- What each exported function answers: the question that its layer defines, asked of the opened code; a sheet, the maker and a word of ten
+-- bytes have none. Assumes nothing.
 use mathlib.Core.List.{List}
 use Prim.Native.Nat.{ℕ}
 use lib.Ieee.{Float}
@@ -25,6 +25,9 @@ use Rattle.sheet.specs.declared.Limit.the-variants.{Ceiling, Band, Open}
 use Rattle.sheet.specs.Sheets.{asked, sheetOf}
 use Rattle.make.specs.declared.Made.{Made}
 use Rattle.make.specs.Made.{makeOf}
+use Rattle.byte_code.specs.declared.ByteWriting.{ByteWriting}
+use Rattle.byte_code.specs.declared.ByteReading.{ByteReading}
+use Rattle.byte_code.specs.Reading as bytes
 use Rattle.desk.specs.declared.ReadWord.{ReadWord}
 
 -- the version of what a caller links: raised by each landing that changes a struct, a size or a meaning
@@ -85,3 +88,10 @@ openSheet hours devices words mended = sheetOf (asked hours devices words mended
 -- the code that is made for k and r
 abbrev pub madeOf : ℕ → ℕ → Made
 madeOf k r = makeOf k r
+
+-- a word under the byte-correcting code
+abbrev pub byteWritten : ℕ → ByteWriting
+byteWritten low = bytes.byteWritingOf low
+
+abbrev pub byteRead : ℕ → ByteReading
+byteRead word = bytes.byteReadingOf word

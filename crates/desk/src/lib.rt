@@ -4,7 +4,10 @@ ghost use Rattle.pass.specs.Pass.{passOver, stateOf};
 ghost use Rattle.desk.specs.Answers.{version, checkBitsOf, judgementOf, rowsOf, writtenOf, readOf, explainedOf, cardsOf, passedOf};
 ghost use Rattle.desk.specs.Answers.{ceilingSheet, bandSheet, openSheet};
 ghost use Rattle.desk.specs.Answers.{madeOf};
+ghost use Rattle.desk.specs.Answers.{byteWritten, byteRead};
 use balance::RowBalance;
+use byte_code::ByteReading;
+use byte_code::ByteWriting;
 use cards::CardCheck;
 use code::Code;
 use code::Refusal;
@@ -198,4 +201,20 @@ pub extern "C" fn desk_make(k: usize, r: usize) -> Made
     ensures { λ a. ⌜ a ≡ madeOf k r ⌝ }
 {
     make::make(k, r)
+}
+
+// Writing under the byte-correcting code: the whole word of 30 bits, data in bits 0 to 20.
+#[no_mangle]
+pub extern "C" fn desk_byte_write(data: u64) -> ByteWriting
+    ensures { λ a. ⌜ a ≡ byteWritten «data» ⌝ }
+{
+    byte_code::write(data)
+}
+
+// Reading under the byte-correcting code: verdict, byte number, and the word put right or as read.
+#[no_mangle]
+pub extern "C" fn desk_byte_read(word: u64) -> ByteReading
+    ensures { λ a. ⌜ a ≡ byteRead word ⌝ }
+{
+    byte_code::read(word)
 }

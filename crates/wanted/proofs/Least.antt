@@ -1,33 +1,12 @@
 -- Up to 64 data bits the bands of k name the smallest r with k ≤ 2 ^ (r - 1) - r, by computing. Assumes nothing.
 use mathlib.Core.Path.{_≡_, refl}
-use mathlib.Core.Logic.{⊎-elim}
-use mathlib.Core.Bool.{Bool, true, false, _&&_, _||_, false≢true}
+use mathlib.Core.Bool.{true, _&&_, _||_}
 use Prim.Native.Nat.{ℕ, zero, suc, _+_, _-_, _^_, _≤_, _<_}
-use native.Mathlib.Nat.{not-suc-le-zero}
 use native.Mathlib.Omega.{arith}
 use borrow.Author.Tests.{leb-true, ltb-true, lt-leb}
 use lib.Dec.{ltb, leb}
-use Rattle.parity.proofs.Ones.{below-or-not}
+use Rattle.parity.proofs.Tested.{allBelow, both, all-at}
 use Rattle.wanted.specs.Wanted.{bandOf}
-
--- ---- a test of every number below n, to be computed
-
-unfoldable allBelow : (ℕ → Bool) → ℕ → Bool
-allBelow f zero = true
-allBelow f (suc n) = f n && allBelow f n
-
-both : (a b : Bool) → (a && b) ≡ true → (a ≡ true) × (b ≡ true)
-both true b h = (refl, h)
-both false b h = absurd (false≢true h)
-
-all-at : (f : ℕ → Bool) (n : ℕ) → allBelow f n ≡ true → (x : ℕ) → x < n → f x ≡ true
-unfolding allBelow
-all-at f zero h x l = absurd (not-suc-le-zero l)
-all-at f (suc n) h x l =
-    let t = both (f n) (allBelow f n) h in
-    ⊎-elim (λ (o : x < n). all-at f n (t .1) x o) (λ (o : n ≤ x). let e : n ≡ x = omega arith in rw e at (t .0)) (below-or-not x n)
-
--- ---- the bands
 
 bands-fit : allBelow (λ k. leb 3 (bandOf k) && (leb (bandOf k) 8 && leb (k + bandOf k) (2 ^ (bandOf k - 1)))) 65 ≡ true
 unfolding allBelow bandOf

@@ -3,7 +3,7 @@
 use crate::program;
 use desk::{ffi, Word};
 use second::{Balanced, CardsChecked, Code, Desk, Explained, Judged, Passed, Reading, Refusal, Wanted, Written};
-use second::{Limit, Made, Pass, Sheeted, Station};
+use second::{ByteRead, ByteWritten, Limit, Made, Pass, Sheeted, Station};
 
 /// The same code for the linked desk.
 fn linked(code: &Code) -> desk::Code {
@@ -90,6 +90,16 @@ impl Desk for Archive {
     fn make(&self, k: usize, r: usize) -> Made {
         let ffi::Made { number, code } = ffi::make(k, r);
         Made { number, code: unlinked(code) }
+    }
+
+    fn byte_write(&self, data: u64) -> ByteWritten {
+        let ffi::ByteWriting { number, told, word } = ffi::byte_write(data);
+        ByteWritten { number, told, word }
+    }
+
+    fn byte_read(&self, word: u64) -> ByteRead {
+        let ffi::ByteReading { number, told, verdict, byte, word } = ffi::byte_read(word);
+        ByteRead { number, told, verdict, byte: byte.0, word }
     }
 
     fn mend(&self, input: &[u8]) -> String {
@@ -181,6 +191,21 @@ impl Desk for Wrapper {
             Ok(code) => Made { number: 0, code: unlinked(code) },
             Err(refusal) => Made { number: refusal.number(), code: Code::of(&[], refusal.told()) },
         }
+    }
+
+    fn byte_write(&self, data: u64) -> ByteWritten {
+        let done = |word| ByteWritten { word, ..ByteWritten::default() };
+        desk::byte_write(data).map_or_else(|refusal| refused(refusal).into(), done)
+    }
+
+    fn byte_read(&self, word: u64) -> ByteRead {
+        let done = |reading: desk::ByteReading| ByteRead {
+            verdict: reading.verdict.number(),
+            byte: reading.byte.map_or(255, |byte| byte.0),
+            word: reading.word,
+            ..ByteRead::default()
+        };
+        desk::byte_read(word).map_or_else(|refusal| refused(refusal).into(), done)
     }
 
     fn mend(&self, input: &[u8]) -> String {

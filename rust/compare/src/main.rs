@@ -114,7 +114,8 @@ fn mend(asked: &Asked, counts: &mut Counts) {
         let input = vec![0; bytes];
         counts.expect(&format!("mend: {} bytes of 0", bytes), &program::mend(&input), &second::mend(&input));
     }
-    let none = Amounts { codes: 0, words: 0, lists: 0, cards: 0, images: 0, turns: 0, sheets: 0, ..Amounts::GATE };
+    let inputs = Amounts::GATE.inputs;
+    let none = Amounts { inputs, ..Amounts::NONE };
     for seed in asked.seed..asked.seed + asked.times {
         println!("seed {}: second, program", seed);
         counts.compare(&[&Second, &Archive], &Amounts { seed, ..none }, |question| question == "mend");

@@ -179,6 +179,53 @@ pub struct Made {
     pub code: Code,
 }
 
+/// The number of a byte of three bits in a word of ten: 0 to 6 are data bytes, 7 to 9 check bytes.
+///
+/// It is a kind of its own, so that it is not taken for a place, which is a `usize`:
+///
+/// ```
+/// let byte: desk::ByteNumber = desk::byte_read(1)?.byte.unwrap();
+/// assert_eq!(byte, desk::ByteNumber(0));
+/// # Ok::<(), desk::Refusal>(())
+/// ```
+///
+/// ```compile_fail
+/// let place: usize = desk::byte_read(1)?.byte.unwrap();
+/// assert_eq!(place, 0);
+/// # Ok::<(), desk::Refusal>(())
+/// ```
+#[repr(C)]
+#[derive(Clone, Copy, PartialEq, Eq, PartialOrd, Ord, Hash, Debug, Default)]
+pub struct ByteNumber(pub usize);
+
+/// The answer of [`byte_write`].
+#[repr(C)]
+#[derive(Clone, Copy, PartialEq, Eq, Debug, Default)]
+pub struct ByteWriting {
+    /// 0, or the number of the refusal, which is 7.
+    pub number: usize,
+    /// What goes with the number: 0.
+    pub told: usize,
+    /// The word of 30 bits.
+    pub word: u64,
+}
+
+/// The answer of [`byte_read`].
+#[repr(C)]
+#[derive(Clone, Copy, PartialEq, Eq, Debug, Default)]
+pub struct ByteReading {
+    /// 0, or the number of the refusal, which is 7.
+    pub number: usize,
+    /// What goes with the number: 0.
+    pub told: usize,
+    /// The verdict, 0 to 3.
+    pub verdict: usize,
+    /// The byte that was wrong, 255 for none; 0 where it is refused.
+    pub byte: ByteNumber,
+    /// The word handed back.
+    pub word: u64,
+}
+
 extern "C" {
     fn desk_version() -> usize;
     fn desk_check_bits(k: usize) -> CheckBits;
@@ -203,6 +250,8 @@ extern "C" {
     fn desk_sheet_band(hours: f64, devices: usize, words: usize, mended: usize, low: f64, high: f64) -> SheetAnswer;
     fn desk_sheet_open(hours: f64, devices: usize, words: usize, mended: usize) -> SheetAnswer;
     fn desk_make(k: usize, r: usize) -> Made;
+    fn desk_byte_write(data: u64) -> ByteWriting;
+    fn desk_byte_read(word: u64) -> ByteReading;
 }
 
 /// Asks the archive, once it is known to be of this crate's version.
@@ -293,4 +342,14 @@ pub fn sheet_open(hours: f64, devices: usize, words: usize, mended: usize) -> Sh
 /// The code of `k` data bits and `r` check bits with the fewest ones, three ones first; refuses with 1, 2, 15.
 pub fn make(k: usize, r: usize) -> Made {
     ask!(desk_make(k, r))
+}
+
+/// The word of 30 bits with these data bits, which are its bits 0 to 20; refuses with 7, as the next does.
+pub fn byte_write(data: u64) -> ByteWriting {
+    ask!(desk_byte_write(data))
+}
+
+/// What is in the word of ten bytes as read, and the word put right where an error within one byte explains it.
+pub fn byte_read(word: u64) -> ByteReading {
+    ask!(desk_byte_read(word))
 }

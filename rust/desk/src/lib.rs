@@ -37,6 +37,7 @@
 
 pub mod ffi;
 
+mod bytes;
 mod code;
 mod refusal;
 mod sheet;
@@ -44,8 +45,9 @@ mod tally;
 mod version;
 mod word;
 
+pub use bytes::{byte_read, byte_write, ByteReading, ByteVerdict};
 pub use code::check_bits_wanted;
-pub use ffi::{Code, Sheet, Tally};
+pub use ffi::{ByteNumber, Code, Sheet, Tally};
 pub use refusal::Refusal;
 pub use sheet::{JudgedSheet, Limit, Station};
 pub use tally::Passed;
@@ -63,6 +65,8 @@ pub const IMAGE: usize = 65_530;
 pub const LONGEST_LIST: usize = 80;
 /// The place that stands in an entry or in a list where there is none.
 pub const NO_PLACE: u8 = 255;
+/// The number that stands in a reading of ten bytes where no byte is named.
+pub const NO_BYTE: ByteNumber = ByteNumber(255);
 
 /// The page on calling the desk: its Rust blocks are run as examples of this crate.
 #[cfg(doctest)]

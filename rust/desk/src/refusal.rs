@@ -82,7 +82,8 @@ refusals! {
     6 RepeatedColumn { place = told "place" },
         "a column equals an earlier data column", "column {place} equals an earlier one";
     7 StrayBits,
-        "single word: a data bit at k or above, or a check bit at r or above, is set (writing: data only)",
+        "single word: a data bit at k or above, or a check bit at r or above, is set (writing: data only); word of ten \
+         bytes: a bit at 30 or above (writing: a data bit at 21 or above)",
         "a bit past the word's data or check bits is set";
     8 CardSize,
         "b below 2 or over 8", "b is below 2 or over 8";

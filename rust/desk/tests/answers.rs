@@ -3,6 +3,7 @@
 mod common;
 
 use common::*;
+use desk::{byte_read, byte_write, ByteNumber, ByteVerdict};
 use desk::{check_bits_wanted, Code, Explanation, Limit, Passed, Refusal, Sheet, Station, Tally, Verdict, Word};
 use desk::{ENTRY, IMAGE, LONGEST_LIST, RECORD};
 
@@ -106,4 +107,20 @@ fn a_sheet_is_judged_by_each_kind_of_limit() {
     assert!(!yes(Limit::Band { low: 0.2, high: 1.0 }) && !yes(Limit::Band { low: 0.0, high: 0.1 }));
     assert_eq!(station.sheet(Limit::Band { low: 1.0, high: 0.0 }), Err(Refusal::Sheet));
     assert_eq!(Station { devices: 65_536, ..station }.sheet(Limit::Open), Err(Refusal::Sheet));
+}
+
+#[test]
+fn a_byte_is_named_where_one_was_wrong() {
+    let word = byte_write(0o1234567).unwrap();
+    let read = |spoilt: u64| byte_read(spoilt).map(|reading| (reading.verdict, reading.byte, reading.word));
+    assert_eq!(read(word), Ok((ByteVerdict::Clean, None, word)));
+    assert_eq!(read(word ^ 0o7), Ok((ByteVerdict::Data, Some(ByteNumber(0)), word)));
+    assert_eq!(read(word ^ 0o5 << 27), Ok((ByteVerdict::Check, Some(ByteNumber(9)), word)));
+    assert_eq!(read(word ^ 0o11), Ok((ByteVerdict::Flagged, None, word ^ 0o11)));
+    assert_eq!(read(word ^ 1 << 30), Err(Refusal::StrayBits));
+    assert_eq!(byte_write(1 << 63), Err(Refusal::StrayBits));
+    for (number, verdict) in ByteVerdict::ALL.into_iter().enumerate() {
+        assert_eq!((verdict.number(), ByteVerdict::of(number)), (number, Some(verdict)));
+    }
+    assert_eq!(ByteVerdict::of(4), None);
 }

@@ -1,7 +1,7 @@
 //! Version, sizes and the layout of every struct as Rust has them, against c/layout.txt, which C is held to as well.
 
 use desk::ffi::*;
-use desk::{ENTRY, IMAGE, LONGEST_LIST, NO_PLACE, RECORD, VERSION};
+use desk::{ENTRY, IMAGE, LONGEST_LIST, NO_BYTE, NO_PLACE, RECORD, VERSION};
 use std::mem::{align_of, size_of, size_of_val};
 
 /// The lines of a struct: its size, then each of its fields.
@@ -29,6 +29,7 @@ macro_rules! sizes {
 fn rust_lays_out_every_struct_as_c_does() {
     let lines = [
         sizes!(VERSION RECORD ENTRY IMAGE LONGEST_LIST NO_PLACE),
+        vec![format!("NO_BYTE {}", NO_BYTE.0)],
         lines!(Code { columns, k, r } of Code { columns: [0; 64], k: 0, r: 0 }),
         lines!(CheckBits { number, bits } of Default::default()),
         lines!(Judgement { number, told } of Default::default()),
@@ -42,6 +43,9 @@ fn rust_lays_out_every_struct_as_c_does() {
         lines!(Sheet { device, station, share } of Default::default()),
         lines!(SheetAnswer { number, told, yes, sheet } of Default::default()),
         lines!(Made { number, code } of Made { number: 0, code: Code { columns: [0; 64], k: 0, r: 0 } }),
+        vec![format!("ByteNumber size {} align {}", size_of::<ByteNumber>(), align_of::<ByteNumber>())],
+        lines!(ByteWriting { number, told, word } of Default::default()),
+        lines!(ByteReading { number, told, verdict, byte, word } of Default::default()),
     ];
     let expected: Vec<&str> = include_str!("../../../c/layout.txt").lines().collect();
     assert_eq!(lines.concat(), expected);

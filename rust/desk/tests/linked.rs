@@ -218,3 +218,36 @@ fn a_refused_sheet_is_no_and_three_plus_zeros() {
     assert_eq!(plain(sheet_open(6.0, 4, 8, 9)), refused);
     assert_eq!(plain(sheet_band(6.0, 4, 8, 1, 0.2, 0.1)), refused);
 }
+
+/// The word written for 8, a single one in data byte 1.
+const EIGHT: u64 = 572_522_504;
+
+#[test]
+fn words_of_ten_bytes() {
+    assert_eq!(byte_write(8), ByteWriting { number: 0, told: 0, word: EIGHT });
+    assert_eq!(byte_write(1 << 18), ByteWriting { number: 0, told: 0, word: 1_025_769_472 });
+    assert_eq!(byte_write((1 << 21) - 1), ByteWriting { number: 0, told: 0, word: 16_777_215 });
+    let left = |verdict: usize, word: u64| ByteReading { verdict, byte: ByteNumber(255), word, ..Default::default() };
+    assert_eq!(byte_read(EIGHT), left(0, EIGHT));
+    for t in 0..10 {
+        for pattern in 1..8 {
+            let once = EIGHT ^ pattern << (3 * t);
+            let verdict = if t < 7 { 1 } else { 2 };
+            let back = ByteReading { verdict, byte: ByteNumber(t), word: EIGHT, ..Default::default() };
+            assert_eq!(byte_read(once), back);
+            for s in 0..t {
+                assert_eq!(byte_read(once ^ 5 << (3 * s)), left(3, once ^ 5 << (3 * s)));
+            }
+        }
+    }
+}
+
+#[test]
+fn a_refused_word_of_ten_bytes_is_all_zeros() {
+    for bit in 21..64 {
+        assert_eq!(byte_write(8 | 1 << bit), ByteWriting { number: 7, ..Default::default() });
+    }
+    for bit in 30..64 {
+        assert_eq!(byte_read(EIGHT | 1 << bit), ByteReading { number: 7, ..Default::default() });
+    }
+}

@@ -1,7 +1,7 @@
 //! The comparison: the same cases to every desk, every number and every byte of the answers.
 
 use crate::answers::{Explained, Judged, Passed, Reading, Written};
-use crate::cases::{asked_shapes, edges, Cases, ImageCase, ListCase, TurnsCase, HUGE};
+use crate::cases::{asked_shapes, edges, edges_of_bits, Cases, ImageCase, ListCase, TurnsCase, HUGE};
 use crate::desk::Desk;
 use crate::make::Made;
 use crate::pass::Pass;
@@ -22,6 +22,10 @@ pub struct Amounts {
     pub turns: usize,
     /// Stations from the seed; every edge is asked besides.
     pub sheets: usize,
+    /// Data words, each asked with every error within one byte and within two.
+    pub byte_errors: usize,
+    /// Words of ten bytes from the seed, and as many data words to write; every edge is asked besides.
+    pub byte_words: usize,
     pub inputs: usize,
 }
 
@@ -36,7 +40,24 @@ impl Amounts {
         images: 3_000,
         turns: 1_000,
         sheets: 100_000,
+        byte_errors: 1_000,
+        byte_words: 100_000,
         inputs: 200,
+    };
+
+    /// No case of any question but the edges.
+    pub const NONE: Amounts = Amounts {
+        seed: 1,
+        codes: 0,
+        words: 0,
+        lists: 0,
+        cards: 0,
+        images: 0,
+        turns: 0,
+        sheets: 0,
+        byte_errors: 0,
+        byte_words: 0,
+        inputs: 0,
     };
 }
 
@@ -124,6 +145,9 @@ pub fn compare(desks: &[&dyn Desk], amounts: &Amounts) -> Result<Vec<Line>, Box<
     let images = cases(amounts, 5, amounts.images, Cases::image);
     let turns = cases(amounts, 8, amounts.turns, Cases::turns);
     let stations = edges().into_iter().chain(cases(amounts, 7, amounts.sheets, Cases::station));
+    let byte_data = edges_of_bits().chain(cases(amounts, 9, amounts.byte_words, Cases::byte_data));
+    let byte_errors = cases(amounts, 10, amounts.byte_errors, Cases::byte_errors).flatten();
+    let byte_words = edges_of_bits().chain(cases(amounts, 11, amounts.byte_words, Cases::byte_word));
     let inputs = cases(amounts, 6, amounts.inputs, Cases::program_input);
     Ok(vec![
         ask("check bits", desks, numbers_of_bits, |d, &k| d.wanted(k), |a| a.number)?,
@@ -137,6 +161,9 @@ pub fn compare(desks: &[&dyn Desk], amounts: &Amounts) -> Result<Vec<Line>, Box<
         ask("passes", desks, turns, passed_in_turn, |a| a.0.last().map_or(0, |last| last.number))?,
         ask("sheet", desks, stations, |d, s| d.sheet(s), |a| a.number)?,
         ask("make", desks, asked_shapes(), made, |a| a.0.number)?,
+        ask("byte write", desks, byte_data, |d, &data| d.byte_write(data), |a| a.number)?,
+        ask("byte errors", desks, byte_errors, |d, &word| d.byte_read(word), |a| a.number)?,
+        ask("byte read", desks, byte_words, |d, &word| d.byte_read(word), |a| a.number)?,
         ask("mend", desks, inputs, |d, i| d.mend(i), |text| if text == "refused 12\n" { 12 } else { 0 })?,
     ])
 }

@@ -1,12 +1,14 @@
 //! A desk is whatever answers all questions: the second program here, the linked desk in a comparison.
 
 use crate::answers::{Balanced, CardsChecked, Explained, Judged, Passed, Reading, Wanted, Written};
+use crate::bytes::{ByteRead, ByteWritten};
 use crate::code::Code;
 use crate::make::Made;
 use crate::pass::Pass;
 use crate::sheet::{Sheeted, Station};
 
-/// Every question of document 01, and 02's sheet and maker. No method has a body here: a desk must not fall back on another's answer.
+/// Every question of document 01, and 02's sheet, maker and words of ten bytes. No method has a body here: a desk must not
+/// fall back on another's answer.
 pub trait Desk {
     fn name(&self) -> &'static str;
     fn wanted(&self, k: usize) -> Wanted;
@@ -19,6 +21,8 @@ pub trait Desk {
     fn pass(&self, code: &Code, image: &mut [u8], journal: &mut [u8], asked: &Pass) -> Passed;
     fn sheet(&self, asked: &Station) -> Sheeted;
     fn make(&self, k: usize, r: usize) -> Made;
+    fn byte_write(&self, data: u64) -> ByteWritten;
+    fn byte_read(&self, word: u64) -> ByteRead;
     fn mend(&self, input: &[u8]) -> String;
 }
 
@@ -69,6 +73,14 @@ impl Desk for Second {
 
     fn make(&self, k: usize, r: usize) -> Made {
         crate::make(k, r)
+    }
+
+    fn byte_write(&self, data: u64) -> ByteWritten {
+        crate::byte_write(data)
+    }
+
+    fn byte_read(&self, word: u64) -> ByteRead {
+        crate::byte_read(word)
     }
 
     fn mend(&self, input: &[u8]) -> String {

@@ -1,14 +1,15 @@
-//! The independent second program: answers every question of document 01, and 02's sheet and maker, from the documents
-//! alone.
+//! The independent second program: answers every question of document 01, and 02's sheet, maker and words of ten bytes,
+//! from the documents alone.
 //!
 //! It goes by brute force over words of switches. A word is clean when writing its data gives its check bits; reading,
 //! explanations and cards flip places and ask that again. No syndrome is formed, and nothing is shared with the desk.
 //!
 //! The questions are [`wanted`], [`judge`], [`row_balance`], [`write`], [`read`], [`explain`], [`card_check`], [`pass`],
-//! [`sheet`], [`make`] and the program [`mend`]. [`Desk`] gathers them, [`Cases`] makes cases from a seed, [`compare`]
-//! asks several desks, and [`worked`] asks a desk the documents' own cases.
+//! [`sheet`], [`make`], [`byte_write`], [`byte_read`] and the program [`mend`]. [`Desk`] gathers them, [`Cases`] makes
+//! cases from a seed, [`compare`] asks several desks, and [`worked`] asks a desk the documents' own cases.
 
 mod answers;
+mod bytes;
 mod cards;
 pub mod cases;
 mod code;
@@ -24,6 +25,7 @@ mod word;
 mod worked;
 
 pub use answers::{Balanced, CardsChecked, Explained, Judged, Passed, Reading, Refusal, Wanted, Written};
+pub use bytes::{byte_read, byte_write, single_errors, spoilt, ByteRead, ByteWritten};
 pub use cards::card_check;
 pub use cases::Cases;
 pub use code::{judge, row_balance, wanted, Code};

@@ -88,6 +88,16 @@ enum Fault {
     RoomForOneMore,
     ChecksBeforeData,
     RefusedCodeHasItsSize,
+    // Words of ten bytes.
+    TransposedT,
+    SeventhByteIsLost,
+    PartsAreExchanged,
+    CheckBytesStayUnmended,
+    NineIsData,
+    FlaggedIsMended,
+    BitThirtyPasses,
+    StrayDataIsCut,
+    ByteOnRefusal,
     // The program.
     NoLastLineEnd,
     RefusedPrintsTally,
@@ -367,6 +377,34 @@ impl Desk for Sloppy {
         made
     }
 
+    fn byte_write(&self, data: u64) -> ByteWritten {
+        let answer = byte_write(data);
+        let check = |t: usize| answer.word >> (3 * t) & 7;
+        match (self.0, answer.number) {
+            // T takes 1 to 2, and transposed to 4.
+            (TransposedT, 0) if data == 1 << 3 => ByteWritten { word: spoilt(answer.word, 8, 2 ^ 4), ..answer },
+            (PartsAreExchanged, 0) => {
+                let both = check(8) ^ check(9);
+                ByteWritten { word: spoilt(spoilt(answer.word, 8, both), 9, both), ..answer }
+            }
+            (StrayDataIsCut, 7) => byte_write(data % (1 << 21)),
+            _ => answer,
+        }
+    }
+
+    fn byte_read(&self, word: u64) -> ByteRead {
+        let answer = byte_read(word);
+        match (self.0, answer.number, answer.verdict) {
+            (SeventhByteIsLost, 0, 1) if answer.byte == 6 => ByteRead { verdict: 3, byte: 255, word, ..answer },
+            (CheckBytesStayUnmended, 0, 2) => ByteRead { word, ..answer },
+            (NineIsData, 0, 2) if answer.byte == 9 => ByteRead { verdict: 1, ..answer },
+            (FlaggedIsMended, 0, 3) => ByteRead { word: word ^ 1, ..answer },
+            (BitThirtyPasses, 7, _) if word >> 31 == 0 => byte_read(word % (1 << 30)),
+            (ByteOnRefusal, 7, _) => ByteRead { byte: 255, ..answer },
+            _ => answer,
+        }
+    }
+
     fn mend(&self, input: &[u8]) -> String {
         let text = mend(input);
         match self.0 {
@@ -377,8 +415,7 @@ impl Desk for Sloppy {
     }
 }
 
-const NO_CASES: Amounts =
-    Amounts { seed: 1, codes: 0, words: 0, lists: 0, cards: 0, images: 0, turns: 0, sheets: 0, inputs: 0 };
+const NO_CASES: Amounts = Amounts::NONE;
 
 /// Every fault is noticed, at this question, with no more cases than these.
 fn noticed(faults: &[Fault], question: &str, amounts: Amounts) {
@@ -473,6 +510,14 @@ fn every_fault_of_a_sheet_is_noticed() {
 fn every_fault_of_a_made_code_is_noticed() {
     noticed(&[FiveBeforeThree, LargerNumberFirst, ColumnLeftOut, LeftoverIsMade], "make", NO_CASES);
     noticed(&[RoomForOneLess, RoomForOneMore, ChecksBeforeData, RefusedCodeHasItsSize], "make", NO_CASES);
+}
+
+#[test]
+fn every_fault_of_a_word_of_ten_bytes_is_noticed() {
+    let amounts = Amounts { byte_errors: 1, ..NO_CASES };
+    noticed(&[TransposedT, PartsAreExchanged, StrayDataIsCut], "byte write", NO_CASES);
+    noticed(&[SeventhByteIsLost, CheckBytesStayUnmended, NineIsData, FlaggedIsMended], "byte errors", amounts);
+    noticed(&[BitThirtyPasses, ByteOnRefusal], "byte read", NO_CASES);
 }
 
 #[test]

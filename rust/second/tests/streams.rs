@@ -1,6 +1,6 @@
 //! The streams of cases: fixed by their seed, and wide enough that every line of the document is asked.
 
-use second::cases::{edges, CardCase, HUGE};
+use second::cases::{edges, edges_of_bits, CardCase, HUGE};
 use second::*;
 use std::collections::{BTreeSet, HashSet};
 
@@ -13,6 +13,8 @@ const SMALL: Amounts = Amounts {
     images: 1_000,
     turns: 1_000,
     sheets: 4_000,
+    byte_errors: 2,
+    byte_words: 4_000,
     inputs: 40,
 };
 
@@ -22,7 +24,8 @@ fn the_same_seed_gives_the_same_cases() {
         let mut cases = Cases::new(seed);
         let some = |_| {
             let program = (cases.image(), cases.turns(), cases.program_input());
-            (cases.code(), cases.word(), cases.list(), cases.card(), cases.station(), program)
+            let bytes = (cases.byte_data(), cases.byte_errors().sum::<u64>(), cases.byte_word());
+            (cases.code(), cases.word(), cases.list(), cases.card(), cases.station(), bytes, program)
         };
         format!("{:?}", (0..50).map(some).collect::<Vec<_>>())
     };
@@ -46,6 +49,9 @@ fn every_number_of_every_question_is_met() {
         ("passes", met(&[0, 1, 2, 3, 4, 5, 6, 13, 14, 16, 21])),
         ("sheet", met(&[0, 19])),
         ("make", met(&[0, 1, 2, 15])),
+        ("byte write", met(&[0, 7])),
+        ("byte errors", met(&[0])),
+        ("byte read", met(&[0, 7])),
         ("mend", met(&[0, 12])),
     ];
     let lines = compare(&[&Second, &Second], &SMALL).expect("the second program agrees with itself");
@@ -275,4 +281,30 @@ fn stations_stand_and_fall_by_every_part() {
         assert!(seen.contains(&(shape, (19, true))) && !seen.contains(&(shape, (0, true))), "{}", shape);
     }
     assert!(seen.contains(&("open", (0, true))) && !seen.contains(&("open", (0, false))));
+}
+
+#[test]
+fn words_of_ten_bytes_have_every_verdict_and_byte() {
+    let mut cases = Cases::new(10);
+    let mut seen = HashSet::new();
+    let mut verdicts = [0; 4];
+    for word in edges_of_bits().chain((0..20_000).map(|_| cases.byte_word())) {
+        let answer = byte_read(word);
+        if answer.number == 0 {
+            verdicts[answer.verdict] += 1;
+            seen.insert(answer.byte);
+        } else {
+            seen.insert(1_000 + (63 - word.leading_zeros() as usize));
+        }
+    }
+    assert!(verdicts.iter().all(|&count| count > 500), "{:?}", verdicts);
+    assert!((0..10).chain([255]).chain(1_030..1_064).all(|each| seen.contains(&each)));
+
+    let counts = |verdict: usize, errors: &[u64]| errors.iter().filter(|&&w| byte_read(w).verdict == verdict).count();
+    for _ in 0..20 {
+        let errors: Vec<u64> = cases.byte_errors().collect();
+        assert_eq!([0, 1, 2, 3].map(|verdict| counts(verdict, &errors)), [1, 49, 21, 2_205]);
+        assert_eq!(errors.iter().collect::<HashSet<_>>().len(), 1 + 70 + 2_205);
+    }
+    assert!((0..1_000).any(|_| byte_write(cases.byte_data()).number == 7));
 }

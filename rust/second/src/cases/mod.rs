@@ -5,6 +5,7 @@
 mod codes;
 mod images;
 mod stations;
+mod tens;
 mod words;
 
 use crate::code::Code;
@@ -15,6 +16,7 @@ use std::rc::Rc;
 pub use codes::asked_shapes;
 pub use images::{ImageCase, TurnsCase};
 pub use stations::edges;
+pub use tens::edges_of_bits;
 pub use words::{CardCase, ListCase, WordCase};
 
 /// Values of k, r, b, limits and ends that no code and no call has: just outside, and such that a narrower number

@@ -1,0 +1,5 @@
+pub mod Vectors
+pub mod Sums
+pub mod Solutions
+pub mod Steps
+pub mod Exactly

@@ -1,0 +1,3 @@
+pub mod Vectors
+pub mod Parts
+pub mod Reading
