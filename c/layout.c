@@ -41,6 +41,7 @@ int main(void) {
     FIELD(ReadWord, place);
     FIELD(ReadWord, data);
     FIELD(ReadWord, check);
+    FIELD(ReadWord, syndrome);
     STRUCT(Listing);
     FIELD(Listing, number);
     FIELD(Listing, told);

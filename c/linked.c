@@ -32,9 +32,9 @@ static void put_every_verdict(uint8_t image[21 * DESK_RECORD]) {
 }
 
 static int same_read(DeskReadWord a, size_t number, size_t told, size_t verdict, size_t place, uint64_t data,
-                     uint16_t check) {
+                     uint16_t check, uint16_t syndrome) {
     return a.number == number && a.told == told && a.verdict == verdict && a.place == place && a.data == data &&
-           a.check == check;
+           a.check == check && a.syndrome == syndrome;
 }
 
 static int same_tally(DeskTally t, size_t clean, size_t data, size_t check, size_t even, size_t odd, size_t stray) {
@@ -66,11 +66,29 @@ static void word_fields(void) {
     expect("desk_write: every field", written.number == 0 && written.told == 0 && written.check == 12);
     written = desk_write(repeated(), 0xFF);
     expect("desk_write: refused", written.number == 6 && written.told == 5 && written.check == 0);
-    expect("desk_read: every field", same_read(desk_read(sample(), 0xA6, 25), 0, 0, 2, 10, 0xA6, 29));
-    expect("desk_read: refused", same_read(desk_read(repeated(), 0xA6, 25), 6, 5, 0, 0, 0, 0));
+    expect("desk_read: every field", same_read(desk_read(sample(), 0xA6, 25), 0, 0, 2, 10, 0xA6, 29, 4));
+    expect("desk_read: refused", same_read(desk_read(repeated(), 0xA6, 25), 6, 5, 0, 0, 0, 0, 0));
     uint16_t check = desk_write(full(8), data).check;
     expect("desk_read: all 64 data bits",
-           same_read(desk_read(full(8), data ^ (uint64_t)1 << 63, check), 0, 0, 1, 63, data, check));
+           same_read(desk_read(full(8), data ^ (uint64_t)1 << 63, check), 0, 0, 1, 63, data, check,
+                     full(8).columns[63]));
+}
+
+/* The syndrome with each verdict, and on a refusal. */
+static void syndromes(void) {
+    static const uint16_t wide[] = {0xFFFE};
+    DeskCode sixteen = code_of(wide, 1, 16);
+    expect("desk_read: a clean syndrome is 0", same_read(desk_read(sample(), 0xA5, 27), 0, 0, 0, 255, 0xA5, 27, 0));
+    expect("desk_read: a data bit's is its column", same_read(desk_read(sample(), 0xA4, 27), 0, 0, 1, 0, 0xA5, 27, 28));
+    expect("desk_read: a check bit's has one bit", same_read(desk_read(sample(), 0xA5, 26), 0, 0, 2, 8, 0xA5, 27, 1));
+    expect("desk_read: an even one", same_read(desk_read(sample(), 0xA6, 27), 0, 0, 3, 255, 0xA6, 27, 6));
+    expect("desk_read: an odd one", same_read(desk_read(sample(), 0xA6, 26), 0, 0, 4, 255, 0xA6, 26, 7));
+    expect("desk_read: all 16 bits of it",
+           same_read(desk_read(sixteen, 1, 0), 0, 0, 1, 0, 0, 0, 0xFFFE) &&
+               same_read(desk_read(sixteen, 1, 0x4000), 0, 0, 3, 255, 1, 0x4000, 0xBFFE));
+    expect("desk_read: 0 where the word is stray",
+           same_read(desk_read(sample(), 0x1A4, 27), 7, 0, 0, 0, 0, 0, 0) &&
+               same_read(desk_read(sample(), 0xA5, 59), 7, 0, 0, 0, 0, 0, 0));
 }
 
 static void list_and_card_fields(void) {
@@ -130,8 +148,10 @@ static void pass_fields(void) {
     expect("desk_pass: every field",
            a.number == 0 && a.told == 0 && a.used == 20 && same_tally(a.tally, 1, 2, 3, 4, 5, 6));
     expect("desk_pass: the journal past its entries stays", is_filled(journal + 20 * DESK_ENTRY, 7, 0xEE));
-    static const uint8_t head[] = {1, 2, 3, 4, 20, 0, DESK_STRAY, DESK_NO_PLACE};
-    expect("desk_pass: the last entry", memcmp(journal + 19 * DESK_ENTRY, head, sizeof head) == 0);
+    static const uint8_t stray[] = {1, 2, 3, 4, 20, 0, DESK_STRAY, DESK_NO_PLACE, 0, 0, 0, 1};
+    expect("desk_pass: the last entry", memcmp(journal + 19 * DESK_ENTRY, stray, sizeof stray) == 0);
+    static const uint8_t mended[] = {1, 2, 3, 4, 1, 0, DESK_DATA, 0, 28, 0, 0xA4};
+    expect("desk_pass: the first has the syndrome as read", memcmp(journal, mended, sizeof mended) == 0);
     a = desk_pass(sample(), image, sizeof image, 0, 21, journal, sizeof journal, 0, 0);
     expect("desk_pass: what was mended is clean",
            a.number == 0 && a.used == 15 && same_tally(a.tally, 6, 0, 0, 4, 5, 6));
@@ -150,7 +170,7 @@ static void passes_in_one_journal(void) {
     DeskPassAnswer b = desk_pass(sample(), image, IMAGE, 10, 21, journal, JOURNAL, a.used, UINT32_MAX);
     expect("desk_pass: the second of two", b.number == 0 && b.used == 20 && same_tally(b.tally, 0, 0, 0, 0, 5, 6));
     expect("desk_pass: the entries in use stay", memcmp(journal, before, 9 * DESK_ENTRY) == 0);
-    static const uint8_t head[] = {255, 255, 255, 255, 10, 0, DESK_ODD, DESK_NO_PLACE};
+    static const uint8_t head[] = {255, 255, 255, 255, 10, 0, DESK_ODD, DESK_NO_PLACE, 7, 0, 0xA6};
     expect("desk_pass: the next stand right behind them", memcmp(journal + 9 * DESK_ENTRY, head, sizeof head) == 0);
     expect("desk_pass: bytes past them stay", is_filled(journal + 20 * DESK_ENTRY, DESK_ENTRY + 5, 0xEE));
     expect("desk_pass: the guards stay",
@@ -212,14 +232,14 @@ static void refusals_leave_buffers(void) {
     expect("refused by 11: the list stays", list_stays(sample(), 0xA6, 3, 80, DESK_FLIP_LIMIT));
     expect("refused by 12: image and journal stay", image_stays(sample(), 209, 20, DESK_IMAGE_LENGTH));
     expect("refused by 14: image and journal stay", image_stays(sample(), 210, 22, DESK_RUN));
-    expect("refused by 13: image and journal stay", stays(sample(), 210, 21, 559, 0, 0, DESK_JOURNAL_ROOM));
-    expect("refused by 13: a used entry is no room", stays(sample(), 210, 21, 587, 1, 0xEEEEEEEE, DESK_JOURNAL_ROOM));
-    expect("refused by 16: image and journal stay", stays(sample(), 210, 21, 588, 1, 0xEEEEEEED, DESK_STAMP));
-    expect("refused by 16: where no entry is written, too", stays(sample(), 210, 0, 588, 21, 0, DESK_STAMP));
-    expect("refused by 17: image and journal stay", stays(sample(), 210, 21, 588, 22, UINT32_MAX, DESK_COUNT_IN_USE));
+    expect("refused by 13: image and journal stay", stays(sample(), 210, 21, 599, 0, 0, DESK_JOURNAL_ROOM));
+    expect("refused by 13: a used entry is no room", stays(sample(), 210, 21, 629, 1, 0xEEEEEEEE, DESK_JOURNAL_ROOM));
+    expect("refused by 16: image and journal stay", stays(sample(), 210, 21, 630, 1, 0xEEEEEEED, DESK_STAMP));
+    expect("refused by 16: where no entry is written, too", stays(sample(), 210, 0, 630, 21, 0, DESK_STAMP));
+    expect("refused by 17: image and journal stay", stays(sample(), 210, 21, 630, 22, UINT32_MAX, DESK_COUNT_IN_USE));
     expect("refused by 17: a count that no journal has",
-           stays(sample(), 210, 0, 588, SIZE_MAX, UINT32_MAX, DESK_COUNT_IN_USE) &&
-               stays(sample(), 210, 0, 588, (size_t)1 << 32, UINT32_MAX, DESK_COUNT_IN_USE));
+           stays(sample(), 210, 0, 630, SIZE_MAX, UINT32_MAX, DESK_COUNT_IN_USE) &&
+               stays(sample(), 210, 0, 630, (size_t)1 << 32, UINT32_MAX, DESK_COUNT_IN_USE));
 }
 
 /* Whether a sheet is this one, bit by bit: the sign of a zero counts. */
@@ -354,6 +374,7 @@ int main(void) {
     version();
     code_fields();
     word_fields();
+    syndromes();
     list_and_card_fields();
     longest_list();
     pass_fields();

@@ -146,12 +146,10 @@ static void ask(const char *line) {
     } else if (sscanf(line, "write %" SCNx64, &data) == 1) {
         DeskCheckWord answer = desk_write(code, data);
         printf(" %zu %zu %d", answer.number, answer.told, answer.check);
-    } else if (sscanf(line, "syndrome %" SCNx64 " %" SCNu16, &data, &check) == 2) {
-        printf(" %d", desk_write(code, data).check ^ check);
     } else if (sscanf(line, "read %" SCNx64 " %" SCNu16, &data, &check) == 2) {
         DeskReadWord answer = desk_read(code, data, check);
         printf(" %zu %zu %zu %zu", answer.number, answer.told, answer.verdict, answer.place);
-        printf(" %" PRIX64 " %d", answer.data, answer.check);
+        printf(" %" PRIX64 " %d %d", answer.data, answer.check, answer.syndrome);
     } else if (sscanf(line, "explain %" SCNx64 " %" SCNu16 " %zu %zu", &data, &check, &a, &b) == 4 &&
                b <= sizeof list) {
         ask_explain(data, check, a, b);

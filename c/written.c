@@ -42,7 +42,7 @@ static void explain_to(void *answer) {
 
 static void pass_to(void *answer) {
     uint8_t image[20] = {0xA4, 0, 0, 0, 0, 0, 0, 0, 27, 0, 0xA6, 0, 0, 0, 0, 0, 0, 0, 27, 0};
-    uint8_t journal[3 * 28] = {0};
+    uint8_t journal[3 * 30] = {0};
     desk_pass(answer, sample, image, sizeof image, 0, 2, journal, sizeof journal, 1, 0x04030201);
 }
 
@@ -83,7 +83,7 @@ static int writes_sheet(void (*call)(void *)) {
 int main(void) {
     expect("desk_row_balance writes all 80 bytes of its answer, and no other", writes_only(balance_to, 0, 80, 80));
     expect("desk_write writes 18 bytes of its 24, and no other", writes_only(write_to, 0, 18, 24));
-    expect("desk_read writes 42 bytes of its 48, and no other", writes_only(read_to, 0, 42, 48));
+    expect("desk_read writes 44 bytes of its 48, and no other", writes_only(read_to, 0, 44, 48));
     expect("desk_explain writes all 24 bytes of its answer, and no other", writes_only(explain_to, 0, 24, 24));
     expect("desk_cards writes all 32 bytes of its answer, and no other", writes_only(cards_to, 0, 32, 32));
     expect("desk_pass writes 36 bytes of its 40, and no other", writes_only(pass_to, 0, 36, 40));

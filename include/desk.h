@@ -50,7 +50,7 @@ extern "C" {
  *     if (desk_version() != DESK_VERSION)
  *         abort();
  */
-#define DESK_VERSION 4
+#define DESK_VERSION 5
 
 /* The field `number` of an answer: exactly when, and what is told. It is the table of docs/refusals.txt. */
 enum DeskNumber {
@@ -69,7 +69,7 @@ enum DeskNumber {
     DESK_LIST_ROOM = 10,      /* list longer than its room; told: list's length */
     DESK_FLIP_LIMIT = 11,     /* flip limit over 2 */
     DESK_IMAGE_LENGTH = 12,   /* image length no multiple of 10, or over 65,530 */
-    DESK_JOURNAL_ROOM = 13,   /* journal room left (its length / 28, down, less the entries in use) below the entries
+    DESK_JOURNAL_ROOM = 13,   /* journal room left (its length / 30, down, less the entries in use) below the entries
                                  needed; told: entries needed */
     DESK_RUN = 14,            /* run's start above its end, or its end above the number of records */
     DESK_COLUMN_ROOM = 15,    /* making a code: k is over 2^(r-1) - r */
@@ -105,8 +105,8 @@ enum DeskByteVerdict {
 #define DESK_ROWS 16          /* rows of a balance */
 #define DESK_LONGEST_LIST 80  /* bytes that hold any list of explanations */
 #define DESK_RECORD 10        /* bytes of a record: data in 8, check bits in 2, low byte first */
-#define DESK_ENTRY 28         /* bytes of a journal entry: stamp in 4 and record number in 2, low byte first, verdict,
-                                 place, 10 as read, 10 as left */
+#define DESK_ENTRY 30         /* bytes of a journal entry: stamp in 4, record number in 2, verdict, place, syndrome in 2,
+                                 10 as read, 10 as left; numbers low byte first. A stray record's syndrome is 0 */
 #define DESK_IMAGE 65530      /* bytes of the longest image */
 
 /* A code: k data columns, each with row j as its bit j, and r check bits. Places past k hold 0. */
@@ -142,7 +142,11 @@ typedef struct DeskCheckWord {
     uint16_t check;
 } DeskCheckWord;
 
-/* The answer of desk_read: a verdict (0 to 4), a place, and the word that is handed back. */
+/*
+ * The answer of desk_read: a verdict (0 to 4), a place, the word that is handed back, and the syndrome of the word as
+ * read: what desk_write gives for its data, exclusive-ored with its check bits. It is 0 exactly for a clean word, and the
+ * column of the place where one bit is mended (for check bit j that is 2^j).
+ */
 typedef struct DeskReadWord {
     size_t number;
     size_t told;
@@ -150,6 +154,7 @@ typedef struct DeskReadWord {
     size_t place;
     uint64_t data;
     uint16_t check;
+    uint16_t syndrome;
 } DeskReadWord;
 
 /* The answer of desk_explain: the length of a done list, in entries. */
@@ -248,7 +253,7 @@ DeskRowBalance desk_row_balance(DeskCode code);
 /* The check bits that go with the data; refuses with 7. */
 DeskCheckWord desk_write(DeskCode code, uint64_t data);
 
-/* What is in the word as read, and the word mended where one flip explains it; refuses with 7. */
+/* What is in the word as read, its syndrome, and the word mended where one flip explains it; refuses with 7. */
 DeskReadWord desk_read(DeskCode code, uint64_t data, uint16_t check);
 
 /* All sets of at most `limit` places that explain the word, into `list`, two bytes a set; refuses with 7, 11, 10. */

@@ -47,7 +47,7 @@ module _ (f : Reader) where
       → length (entryBytes (entryOf f stamp n rec)) ≡ entrySize (f .d)
   unfolding entryOf leftOf
   length-entryOf stamp n rec e =
-      length-entry (entryBy (f .d) (f .k) stamp n (seen f rec) rec) ∙ ap₂ (λ x y. headSize + (x + y)) e (length-leftOf rec e)
+      length-entry (entryOf f stamp n rec) ∙ ap₂ (λ x y. headSize + (x + y)) e (length-leftOf rec e)
 
   -- only verdicts 1 and 2 are mended
   pub kept : (rec : List ℕ) → verdictOf f rec ≢ 1 → verdictOf f rec ≢ 2 → leftOf f rec ≡ rec

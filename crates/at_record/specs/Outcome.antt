@@ -8,7 +8,8 @@ use Rattle.word.specs.declared.Word.{Word}
 use Rattle.word.specs.declared.Verdict.{Verdict}
 use Rattle.word.specs.declared.Verdict.the-variants.{Clean, Data, Check, Even, Odd, Stray}
 use Rattle.word.specs.Word.{joined, flippedIn}
-use Rattle.word.specs.Verdicts.{readIn, findingOf}
+use Rattle.word.specs.declared.Sight.{Sight}
+use Rattle.word.specs.Verdicts.{readIn, syndromeIn, findingOf}
 
 -- what records are read with: the n columns of a code, k of them data columns, its set of rows, and the bytes of data in a record
 pub record Reader : Type 0 where
@@ -46,6 +47,14 @@ recordOf d w = recordBytes d (joined (w .low) (w .high)) (w .check)
 unfoldable pub seen : Reader → List ℕ → Verdict
 seen f rec = readIn (f .rows) (f .columns) (f .k) (wordIn (f .d) rec)
 
+-- its syndrome; a stray word's counts as 0
+unfoldable pub syndromeOf : Reader → List ℕ → ℕ
+syndromeOf f rec = syndromeIn (f .columns) (f .k) (wordIn (f .d) rec)
+
+-- both
+abbrev pub sight : Reader → List ℕ → Sight
+sight f rec = record { verdict = seen f rec; syndrome = syndromeOf f rec }
+
 -- a record as a verdict leaves it: verdicts 1 and 2 are mended, the place that they name flipped
 abbrev pub leftBy : ℕ → ℕ → Verdict → List ℕ → List ℕ
 leftBy d k Clean rec = rec
@@ -55,14 +64,15 @@ leftBy d k Even rec = rec
 leftBy d k Odd rec = rec
 leftBy d k Stray rec = rec
 
--- the entry of the record with the number n, by a pass with this stamp
-abbrev pub entryBy : ℕ → ℕ → ℕ → ℕ → Verdict → List ℕ → Entry
-entryBy d k stamp n v rec =
+-- the entry of the record with the number n, whose syndrome is s, by a pass with this stamp
+abbrev pub entryBy : ℕ → ℕ → ℕ → ℕ → Verdict → ℕ → List ℕ → Entry
+entryBy d k stamp n v s rec =
     record {
       stamp = stamp;
       number = n;
       verdict = findingOf v .verdict;
       place = findingOf v .place;
+      syndrome = s;
       before = rec;
       after = leftBy d k v rec;
     }
@@ -76,4 +86,4 @@ unfoldable pub leftOf : Reader → List ℕ → List ℕ
 leftOf f rec = leftBy (f .d) (f .k) (seen f rec) rec
 
 unfoldable pub entryOf : Reader → ℕ → ℕ → List ℕ → Entry
-entryOf f stamp n rec = entryBy (f .d) (f .k) stamp n (seen f rec) rec
+entryOf f stamp n rec = entryBy (f .d) (f .k) stamp n (seen f rec) (syndromeOf f rec) rec

@@ -3,20 +3,21 @@ ghost use mathlib.Core.Path.{_≡_};
 ghost use lib.ListN.{length};
 ghost use Rattle.record.specs.Layout.{recordSize, entrySize, entryBytes};
 ghost use Rattle.word.specs.Places.{NamesPlace};
-ghost use Rattle.at_record.specs.Outcome.{reader, Held, Ready, seen, leftBy, entryBy};
+ghost use Rattle.at_record.specs.Outcome.{reader, Held, Ready, sight, leftBy, entryBy};
 use record::CHECK;
 use record::HEAD;
+use word::Sight;
 use word::Verdict;
 use word::Word;
 
 // The bytes of data in the low half of a word.
 const HALF: usize = 8;
 
-// The verdict on a record, under the n columns of a code with k data bits and a set of rows.
-pub fn look(columns: &[u16], k: usize, rows: u16, d: usize, rec: &[u8]) -> Verdict
+// The verdict on a record and its syndrome, under the n columns of a code with k data bits and a set of rows.
+pub fn look(columns: &[u16], k: usize, rows: u16, d: usize, rec: &[u8]) -> Sight
     requires { ⌜ Ready (reader (now columns) k rows d) ⌝ }
     requires { ⌜ length (now rec) ≡ recordSize d ⌝ }
-    ensures { λ v. ⌜ v ≡ seen (reader (now (columns .entry)) k rows d) (now (rec .entry)) ⌝ }
+    ensures { λ a. ⌜ a ≡ sight (reader (now (columns .entry)) k rows d) (now (rec .entry)) ⌝ }
 {
     let end = d + CHECK;
     let word = Word {
@@ -45,24 +46,17 @@ fn mend(rec: &mut [u8], d: usize, k: usize, verdict: Verdict)
 }
 
 // A record's entry is written and the record mended: its bytes as read go into the entry before that, those as left behind it.
-pub fn enter(
-    rec: &mut [u8],
-    entry: &mut [u8],
-    d: usize,
-    k: usize,
-    stamp: u32,
-    n: u16,
-    verdict: Verdict,
-)
+pub fn enter(rec: &mut [u8], entry: &mut [u8], d: usize, k: usize, stamp: u32, n: u16, sight: Sight)
     requires { ⌜ length (now rec) ≡ recordSize d ⌝ }
     requires { ⌜ length (now entry) ≡ entrySize d ⌝ }
     requires { ⌜ Held d k ⌝ }
-    requires { ⌜ NamesPlace k verdict ⌝ }
-    ensures { λ _. ⌜ now (rec .exit) ≡ leftBy d k verdict (now (rec .entry)) ⌝ }
-    ensures { λ _. ⌜ now (entry .exit) ≡ entryBytes (entryBy d k stamp n verdict (now (rec .entry))) ⌝ }
+    requires { ⌜ NamesPlace k (sight .verdict) ⌝ }
+    ensures { λ _. ⌜ now (rec .exit) ≡ leftBy d k (sight .verdict) (now (rec .entry)) ⌝ }
+    ensures { λ _. ⌜ now (entry .exit) ≡ entryBytes (entryBy d k stamp n (sight .verdict) (sight .syndrome) (now (rec .entry))) ⌝ }
 {
     let middle = HEAD + rec.len();
     let end = middle + rec.len();
+    let verdict = sight.verdict;
     let finding = word::finding_of(verdict);
     record::put_head(
         &mut entry[0..HEAD],
@@ -70,6 +64,7 @@ pub fn enter(
         n,
         finding.verdict as u8,
         finding.place as u8,
+        sight.syndrome,
     );
     record::put_bytes(&mut entry[HEAD..middle], &rec[..]);
     mend(rec, d, k, verdict);

@@ -69,6 +69,9 @@ clean-as-read = words.clean-as-read
 pub verdicts-exactly : demands.VerdictsExactly
 verdicts-exactly = words.verdicts-exactly
 
+pub syndrome-told : demands.SyndromeTold
+syndrome-told = words.syndrome-told
+
 pub place-named : demands.PlaceNamed
 place-named = words.place-named
 

@@ -8,8 +8,10 @@ use Prim.Native.Nat.{ℕ, zero, suc, _+_, _*_, _-_, _/_, _%_, _^_, _≤_, _<_}
 use native.Mathlib.Nat.{add-zero}
 use native.Mathlib.Omega.{arith}
 use lib.Dec.{eqb}
-use lib.ListN.{length, drop}
+use lib.ListN.{length, take, drop}
+use lib.Pow.{pow-mono}
 use Rattle.parity.proofs.Ones.{below-or-not}
+use Rattle.columns.specs.Mix.{column}
 use Rattle.code.specs.declared.Code.{Code}
 use Rattle.code.specs.declared.Opened.{Opened}
 use Rattle.code.specs.declared.Refusal.{Refusal}
@@ -17,6 +19,8 @@ use Rattle.code.specs.declared.Standing.{Standing}
 use Rattle.code.specs.declared.Standing.the-variants as standing
 use Rattle.code.specs.Opened.{judgementBy, openedOf, columnsOf, Laid}
 use Rattle.code.proofs.Laid.{laid-in, refused-no-acceptance}
+use Rattle.code.proofs.Rule.{matrix-below}
+use Rattle.code.proofs.Table.{judge-rule}
 use Rattle.sound.proofs.Hsiao.{sound-code}
 use Rattle.word.specs.declared.Word.{Word}
 use Rattle.word.specs.declared.Verdict.{Verdict}
@@ -27,8 +31,9 @@ use Rattle.word.specs.Verdicts.{findingOf, mendedBy}
 use Rattle.word.specs.Reading.{readingBy, readingAs}
 use Rattle.word.proofs.Handed.{flipped-check, flipped-low}
 use Rattle.word.proofs.Named.{reading-names}
+use Rattle.mending.proofs.Syndromes.{syndrome-lt, syndrome-read}
 use Rattle.record.specs.Bytes.{numberOf, bytesOf, byteSpan}
-use Rattle.record.specs.Layout.{dataSize, recordSize, stampSize, headBytes, recordBytes, dataIn, checkIn, Entry}
+use Rattle.record.specs.Layout.{dataSize, recordSize, stampSize, syndromeSize, headBytes, recordBytes, dataIn, checkIn, Entry}
 use Rattle.record.specs.Run.{fromRecord, addUp}
 use Rattle.record.specs.Tally.{oneIf}
 use Rattle.record.specs.Journal.{entriesFrom, appliedAll}
@@ -50,7 +55,7 @@ use Rattle.desk.specs.Answers.{judgementOf, wordWith, narrowed, passedOf}
 use Rattle.demands.specs.Definitions as words
 use Rattle.demands.specs.Definitions.{Handed, Accepted, recordOf, readAt, verdictOf, placeFor, imageAfter, journalAfter, answerOf, Done, PassRefused, needed, countFrom, Turn, turnsAfter, AllStamped}
 use Rattle.demands.specs.Demands as demands
-use Rattle.demands.proofs.Codes.{standing-accepted, standing-refused, data-is, opened-is, columns-are, limits-of, places-length}
+use Rattle.demands.proofs.Codes.{judged-of, standing-accepted, standing-refused, data-is, opened-is, columns-are, limits-of, places-length}
 
 -- ---- refusals, in their order
 
@@ -125,31 +130,33 @@ of-run code p s other long same =
 -- ---- the verdict, the place and the word of a record, as its reading has them
 
 -- a stray word has verdict 5 and place 255 in a pass, where a reading refuses it by 7
-verdict-read : (v : Verdict) (k : ℕ) (w : Word) → findingOf v .verdict ≡ cond (eqb (readingBy v k w .number) 7) 5 (readingBy v k w .verdict)
-verdict-read Clean k w = refl
-verdict-read (Data p) k w = refl
-verdict-read (Check p) k w = refl
-verdict-read Even k w = refl
-verdict-read Odd k w = refl
-verdict-read Stray k w = refl
+verdict-read : (v : Verdict) (s k : ℕ) (w : Word)
+    → findingOf v .verdict ≡ cond (eqb (readingBy v s k w .number) 7) 5 (readingBy v s k w .verdict)
+verdict-read Clean s k w = refl
+verdict-read (Data p) s k w = refl
+verdict-read (Check p) s k w = refl
+verdict-read Even s k w = refl
+verdict-read Odd s k w = refl
+verdict-read Stray s k w = refl
 
-place-read : (v : Verdict) (k : ℕ) (w : Word) → findingOf v .place ≡ cond (eqb (readingBy v k w .number) 7) 255 (readingBy v k w .place)
-place-read Clean k w = refl
-place-read (Data p) k w = refl
-place-read (Check p) k w = refl
-place-read Even k w = refl
-place-read Odd k w = refl
-place-read Stray k w = refl
+place-read : (v : Verdict) (s k : ℕ) (w : Word)
+    → findingOf v .place ≡ cond (eqb (readingBy v s k w .number) 7) 255 (readingBy v s k w .place)
+place-read Clean s k w = refl
+place-read (Data p) s k w = refl
+place-read (Check p) s k w = refl
+place-read Even s k w = refl
+place-read Odd s k w = refl
+place-read Stray s k w = refl
 
 -- a mended word is handed back by its reading
-word-read : (v : Verdict) (k : ℕ) (w : Word) → (findingOf v .verdict ≡ 1) ⊎ (findingOf v .verdict ≡ 2)
-    → readingBy v k w .word ≡ mendedBy v k w
-word-read Clean k w h = refl
-word-read (Data p) k w h = refl
-word-read (Check p) k w h = refl
-word-read Even k w h = refl
-word-read Odd k w h = refl
-word-read Stray k w h = absurd (⊎-elim (λ (e : _≡_ {A = ℕ} 5 1). omega arith) (λ (e : _≡_ {A = ℕ} 5 2). omega arith) h)
+word-read : (v : Verdict) (s k : ℕ) (w : Word) → (findingOf v .verdict ≡ 1) ⊎ (findingOf v .verdict ≡ 2)
+    → readingBy v s k w .word ≡ mendedBy v k w
+word-read Clean s k w h = refl
+word-read (Data p) s k w h = refl
+word-read (Check p) s k w h = refl
+word-read Even s k w h = refl
+word-read Odd s k w h = refl
+word-read Stray s k w h = absurd (⊎-elim (λ (e : _≡_ {A = ℕ} 5 1). omega arith) (λ (e : _≡_ {A = ℕ} 5 2). omega arith) h)
 
 -- with up to 64 data bits nothing comes into the high half
 high-stays : (v : Verdict) (k : ℕ) (w : Word) → k ≤ 64 → NamesPlace k v → mendedBy v k w .high ≡ w .high
@@ -177,20 +184,28 @@ module _ (code : Code) (e : judgementOf code .number ≡ 0) (image : List ℕ) (
   abbrev found : Verdict
   found = seen f rec
 
-  read-same : readAt code image i ≡ narrowed (readingBy found (openedOf code .k) word)
-  unfolding seen numberOf
+  abbrev told : ℕ
+  told = outcome.syndromeOf f rec
+
+  read-same : readAt code image i ≡ narrowed (readingBy found told (openedOf code .k) word)
+  unfolding seen outcome.syndromeOf numberOf
   read-same = ap (λ s. narrowed (readingAs s (openedOf code) word)) (standing-accepted code e)
 
   verdict-same : outcome.verdictOf f rec ≡ verdictOf code image i
   unfolding outcome.verdictOf
-  verdict-same = verdict-read found (openedOf code .k) word ∙ ap (λ x. cond (eqb (x .number) 7) 5 (x .verdict)) (sym read-same)
+  verdict-same = verdict-read found told (openedOf code .k) word ∙ ap (λ x. cond (eqb (x .number) 7) 5 (x .verdict)) (sym read-same)
 
   finding-verdict : findingOf found .verdict ≡ outcome.verdictOf f rec
   unfolding outcome.verdictOf
   finding-verdict = refl
 
+  syndrome-same : outcome.syndromeOf f rec ≡ words.syndromeFor code image i
+  unfolding outcome.syndromeOf seen numberOf
+  syndrome-same =
+      syndrome-read (f .rows) (f .columns) (f .k) word ∙ ap (λ (x : ReadWord). x .syndrome) (sym read-same)
+
   place-same : findingOf found .place ≡ placeFor code image i
-  place-same = place-read found (openedOf code .k) word ∙ ap (λ x. cond (eqb (x .number) 7) 255 (x .place)) (sym read-same)
+  place-same = place-read found told (openedOf code .k) word ∙ ap (λ x. cond (eqb (x .number) 7) 255 (x .place)) (sym read-same)
 
 -- ---- what a done pass changes
 
@@ -240,7 +255,7 @@ module _ (code : Code) (handed : Handed code) (p : Pass) (s : State) (done : Don
       let empty : m .high ≡ 0 = high-stays v (o .k) w (laid .1) names in
       let low : joined (m .low) (m .high) ≡ m .low = ap (joined (m .low)) empty ∙ add-zero (m .low) in
       let same = ap (λ (x : ReadWord). x) (read-same code number (s .image) i) in
-      let back = word-read v (o .k) w h in
+      let back = word-read v (outcome.syndromeOf (readerOf o dataSize) rec) (o .k) w h in
       ap (λ (x : Word). outcome.recordOf dataSize (mendedBy v (o .k) x)) (word-same code number (s .image) i)
       ∙ ap (λ (x : ℕ). recordBytes dataSize x (m .check)) low
       ∙ sym (ap (λ (x : ReadWord). recordBytes dataSize (x .«data») (x .check)) same
@@ -258,10 +273,10 @@ pass-records code handed p s done i l u =
     )
 
 -- an entry's bytes, spelled out
-entry-spelled : (stamp i verdict place : ℕ) (before after : List ℕ)
-    → headBytes stamp i verdict place ++ (before ++ after) ≡ words.entryOf stamp i verdict place before after
+entry-spelled : (stamp i verdict place syndrome : ℕ) (before after : List ℕ)
+    → headBytes stamp i verdict place syndrome ++ (before ++ after) ≡ words.entryOf stamp i verdict place syndrome before after
 unfolding headBytes bytesOf
-entry-spelled stamp i verdict place before after = refl
+entry-spelled stamp i verdict place syndrome before after = refl
 
 pub pass-entries : demands.PassEntries
 pass-entries code handed p s done =
@@ -273,9 +288,9 @@ pass-entries code handed p s done =
           let place = place-same code n (s .image) i in
           let left = recordOf (imageAfter code p s) i in
           facts.entry-is o dataSize p s t done i l u (λ z. m (sym v ∙ z))
-          ∙ entry-spelled (p .stamp) i _ _ (recordOf (s .image) i) left
-          ∙ ap₂ (λ (x y : ℕ). words.entryOf (p .stamp) i x y (recordOf (s .image) i) left)
-          (finding-verdict code n (s .image) i ∙ v) place,
+          ∙ entry-spelled (p .stamp) i _ _ _ (recordOf (s .image) i) left
+          ∙ (λ j. words.entryOf (p .stamp) i ((finding-verdict code n (s .image) i ∙ v) j) (place j) (syndrome-same code n (s .image) i j)
+          (recordOf (s .image) i) left),
       λ m l.
           let x = facts.entry-whose o dataSize p s t done m l in
           (x .0, x .1, x .2, λ z. x .3 (verdict-same code n (s .image) (x .0) ∙ z), x .4),
@@ -289,16 +304,32 @@ four-bytes : (n : ℕ) → n < 2 ^ 32 → n < byteSpan stampSize
 unfolding byteSpan
 four-bytes n h = omega arith
 
+-- a syndrome has at most 16 digits
+narrow : (code : Code) → judgementOf code .number ≡ 0 → (rec : List ℕ)
+    → outcome.syndromeOf (readerOf (openedOf code) dataSize) rec < byteSpan syndromeSize
+unfolding outcome.syndromeOf byteSpan
+narrow code e rec =
+    let o = openedOf code in
+    let rule = judge-rule 64 (code .columns) (code .k) (code .r) .0 (judged-of code e) in
+    let below : (p : ℕ) → p < length (columnsOf o) → column (columnsOf o) p < 2 ^ code .r =
+    rw (columns-are code e) (matrix-below (take (code .k) (code .columns)) (code .r) (rule .rule)) in
+    omega (
+      arith,
+      syndrome-lt (columnsOf o) (o .k) (wordIn dataSize rec) (code .r) below,
+      pow-mono {i = code .r} {j = 16} (rule .limits .top),
+    )
+
 pub pass-applied : demands.PassApplied
 pass-applied code p s small done =
     let o = openedOf code in
+    let thin = narrow code (done-number code p s done) in
     let t = done-standing code p s done in
     let used = facts.used-is o dataSize p s t done in
     let count : answerOf code p s .used - s .used ≡ needed code (s .image) (p .start) (p .end) = omega (arith, used) in
-    applied.image-applied o p s dataSize t done
+    applied.image-applied o p s dataSize t done thin
     ∙ ap (λ (es : List Entry). appliedAll dataSize es (s .image))
     (sym (ap (λ (n : ℕ). entriesFrom dataSize (journalAfter code p s) (s .used) n) count
-    ∙ applied.new-read o p s dataSize t done (four-bytes (p .stamp) small)))
+    ∙ applied.new-read o p s dataSize t done thin (four-bytes (p .stamp) small)))
 
 -- ---- stamps
 

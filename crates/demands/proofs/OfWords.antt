@@ -30,7 +30,7 @@ use Rattle.word.specs.declared.CheckWord.{CheckWord}
 use Rattle.word.specs.declared.Verdict.{Verdict}
 use Rattle.word.specs.declared.Verdict.the-variants.{Clean, Data, Check, Even, Odd, Stray}
 use Rattle.word.specs.Word.{joined, wordOf, dataOf, checkOf, strays, strayIn}
-use Rattle.word.specs.Verdicts.{readIn, findingOf}
+use Rattle.word.specs.Verdicts.{readIn, syndromeIn, findingOf}
 use Rattle.word.specs.Reading.{readingAs, readingBy}
 use Rattle.word.specs.Writing.{checksOf, writeIn, writingAs, writingOf}
 use Rattle.word.proofs.Rows.{on-clean}
@@ -47,6 +47,7 @@ use Rattle.demands.specs.Definitions.{Accepted, Unstrayed, placesOf, dat
 use Rattle.demands.specs.Definitions as words
 use Rattle.demands.specs.Demands as demands
 use Rattle.demands.proofs.Codes.{standing-refused, opened-is, limits-of, rule-of-code, data-length, places-length, sound-of}
+use Rattle.demands.proofs.Words as words-of
 use Rattle.demands.proofs.Words.{verdictAt, reading-is, Answered, answered, answered-as, table, clean-zero}
 
 -- ---- writing
@@ -130,9 +131,9 @@ reading-refuses code low high = (
   λ a l.
       ap narrowed
       (reading-is code a (wordWith low high)
-      ∙ ap (λ v. readingBy v (code .k) (wordWith low high))
+      ∙ ap (λ v. readingBy v (syndromeIn (matrixOf code) (code .k) (wordWith low high)) (code .k) (wordWith low high))
       (in-stray (allRows (code .r)) (matrixOf code) (code .k) (wordWith low high) (stray-is code a low high ∙ strayed code a low high l))
-      ∙ stray-refused (code .k) (wordWith low high)),
+      ∙ stray-refused (syndromeIn (matrixOf code) (code .k) (wordWith low high)) (code .k) (wordWith low high)),
   λ a l h.
       let x = answered code a (wordOf (code .k) low high) (whole-fits code a low l high h) in
       let e = read-whole code a low l high h in
@@ -201,6 +202,21 @@ verdicts-exactly code a low high l h =
         λ e. let y = t .odd .0 (sym v ∙ e) in (sym o ∙ y .0, λ p u z. y .1 p (omega arith) (z ∙ sym m)),
         λ y. v ∙ t .odd .1 (o ∙ y .0, λ p u z. y .1 p (omega arith) (z ∙ m)),
       ),
+    )
+
+pub syndrome-told : demands.SyndromeTold
+syndrome-told code a low high l h =
+    let whole = wordOf (code .k) low high in
+    let t = table code a whole (fits code a low high l h) in
+    let v = verdict-same code a low high l h in
+    let p = place-same code a low high l h in
+    let y : readOf code low high .syndrome ≡ mix (matrixOf code) whole =
+    ap (λ (r : ReadWord). r .syndrome) (read-whole code a low l high h) ∙ words-of.syndrome-told code a whole (fits code a low high l h) in (
+      y ∙ mix-same code a low high l h,
+      (λ z. v ∙ t .clean .1 (sym y ∙ z), λ e. y ∙ t .clean .0 (sym v ∙ e)),
+      λ g.
+          let x = t .named (⊎-elim (λ e. inl (sym v ∙ e)) (λ e. inr (sym v ∙ e)) g) in
+          ap (column (matrixOf code)) p ∙ x .1 ∙ sym y,
     )
 
 pub place-named : demands.PlaceNamed

@@ -18,12 +18,13 @@ use Rattle.word.specs.declared.Word.{Word}
 use Rattle.word.specs.declared.Verdict.{Verdict}
 use Rattle.word.specs.declared.Verdict.the-variants.{Clean, Data, Check, Even, Odd, Stray}
 use Rattle.word.specs.Word.{dataOf, checkOf, inParts}
-use Rattle.word.specs.Verdicts.{verdictOn, readIn, findingOf, mendedBy}
+use Rattle.word.specs.Verdicts.{verdictOn, readIn, syndromeIn, findingOf, mendedBy}
 use Rattle.word.specs.Table.{VerdictTable}
 use Rattle.word.specs.Reading.{givenReading, readingBy, readingOf}
 use Rattle.word.proofs.Exactly.{RowOf, verdict-row, verdict-table}
 use Rattle.mending.proofs.Parts.{data-fits}
 use Rattle.mending.proofs.Reading.{mendedNumber, mended-parts, read-number, data-inside}
+use Rattle.mending.proofs.Syndromes.{syndrome-number}
 use Rattle.desk.specs.declared.ReadWord.{ReadWord}
 use Rattle.desk.specs.Answers.{wordWith, narrowed}
 use Rattle.demands.specs.Definitions.{Unstrayed, read, HandsBack, placesOf}
@@ -58,10 +59,13 @@ module _ (code : Code) (a : words.Accepted code) where
       let high : inParts (code .k) w .high ≡ 0 = div-eq-of-lt (narrow w) in
       λ i. record { low = sym low i; high = sym high i; check = checkOf (code .k) w }
 
-  pub reading-is : (x : Word) → readingOf (openedOf code) x ≡ readingBy (readIn (allRows (code .r)) (matrixOf code) (code .k) x) (code .k) x
+  pub reading-is : (x : Word)
+      → readingOf (openedOf code) x
+      ≡ readingBy (readIn (allRows (code .r)) (matrixOf code) (code .k) x) (syndromeIn (matrixOf code) (code .k) x) (code .k) x
   reading-is x =
       ap (λ (o : Opened). readingOf o x) (opened-is code (a .number))
-      ∙ ap (λ (cs : List ℕ). readingBy (readIn (allRows (code .r)) cs (code .k) x) (code .k) x) (laid-columns (matrixOf code))
+      ∙ ap (λ (cs : List ℕ). readingBy (readIn (allRows (code .r)) cs (code .k) x) (syndromeIn cs (code .k) x) (code .k) x)
+      (laid-columns (matrixOf code))
 
   -- the row that holds of a word's syndrome
   abbrev RowAt : ℕ → Verdict → Type 0
@@ -69,19 +73,20 @@ module _ (code : Code) (a : words.Accepted code) where
       RowOf (allRows (code .r)) (matrixOf code) (code .k) (data-inside (allRows (code .r)) (sound-of code a)) (sound-of code a .good)
       (mix (matrixOf code) w) x
 
-  hands-back : (w : ℕ) (x : Verdict) → HandsBack code (narrowed (givenReading x (code .k) (inParts (code .k) w))) (mendedNumber x w)
-  hands-back w x =
+  hands-back : (w s : ℕ) (x : Verdict) → HandsBack code (narrowed (givenReading x s (code .k) (inParts (code .k) w))) (mendedNumber x w)
+  hands-back w s x =
       let e = mended-parts x (code .k) w in
       record { data-bits = ap (λ (y : Word). y .low) e ∙ low-is (mendedNumber x w); check-bits = ap (λ (y : Word). y .check) e }
 
   -- every verdict but stray is an answer, and stray none of them is
-  given : (w : ℕ) (x : Verdict) → RowAt w x → readingBy x (code .k) (inParts (code .k) w) ≡ givenReading x (code .k) (inParts (code .k) w)
-  given w Clean r = refl
-  given w (Data p) r = refl
-  given w (Check p) r = refl
-  given w Even r = refl
-  given w Odd r = refl
-  given w Stray r = absurd r
+  given : (w s : ℕ) (x : Verdict) → RowAt w x
+      → readingBy x s (code .k) (inParts (code .k) w) ≡ givenReading x s (code .k) (inParts (code .k) w)
+  given w s Clean r = refl
+  given w s (Data p) r = refl
+  given w s (Check p) r = refl
+  given w s Even r = refl
+  given w s Odd r = refl
+  given w s Stray r = absurd r
 
   module _ (w : ℕ) (fits : Unstrayed code w) where
     inside : w < 2 ^ length (matrixOf code)
@@ -93,20 +98,28 @@ module _ (code : Code) (a : words.Accepted code) where
         (data-inside (allRows (code .r)) (sound-of code a)) (sound-of code a .good)
         (mix (matrixOf code) w)
 
-    read-is : read code w ≡ narrowed (givenReading (verdictAt w) (code .k) (inParts (code .k) w))
+    abbrev syndrome : ℕ
+    syndrome = mix (matrixOf code) w
+
+    read-is : read code w ≡ narrowed (givenReading (verdictAt w) syndrome (code .k) (inParts (code .k) w))
     read-is =
         ap narrowed
         (ap (readingOf (openedOf code)) (parts-are w)
         ∙ reading-is (inParts (code .k) w)
-        ∙ ap (λ (x : Verdict). readingBy x (code .k) (inParts (code .k) w))
+        ∙ ap₂ (λ (x : Verdict) (s : ℕ). readingBy x s (code .k) (inParts (code .k) w))
         (read-number (allRows (code .r)) (matrixOf code) (code .k) w (data-inside (allRows (code .r)) (sound-of code a)) inside)
-        ∙ given w (verdictAt w) row)
+        (syndrome-number (allRows (code .r)) (matrixOf code) (code .k) w (data-inside (allRows (code .r)) (sound-of code a)) inside)
+        ∙ given w syndrome (verdictAt w) row)
 
     -- WHAT A READING ANSWERS: the number of the verdict on the syndrome, its place, and the word with that place flipped
     pub answered : Answered code w (read code w) (verdictAt w)
     answered =
         subst (λ (r : ReadWord). Answered code w r (verdictAt w)) (sym read-is)
-        (record { number = refl; told = refl; verdict = refl; place = refl; hands = hands-back w (verdictAt w) })
+        (record { number = refl; told = refl; verdict = refl; place = refl; hands = hands-back w syndrome (verdictAt w) })
+
+    -- the syndrome is handed back
+    pub syndrome-told : read code w .syndrome ≡ mix (matrixOf code) w
+    syndrome-told = ap (λ (r : ReadWord). r .syndrome) read-is
 
     -- the same where the verdict is known
     pub answered-as : (x : Verdict) → verdictAt w ≡ x → Answered code w (read code w) x

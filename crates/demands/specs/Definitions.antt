@@ -99,7 +99,7 @@ abbrev pub refusedWriting : Refusal → CheckWord
 refusedWriting f = record { number = f .number; told = f .told; check = 0 }
 
 abbrev pub refusedReading : Refusal → ReadWord
-refusedReading f = record { number = f .number; told = f .told; verdict = 0; place = 0; «data» = 0; check = 0 }
+refusedReading f = record { number = f .number; told = f .told; verdict = 0; place = 0; «data» = 0; check = 0; syndrome = 0 }
 
 abbrev pub refusedListing : Refusal → Listing
 refusedListing f = record { number = f .number; told = f .told; length = 0 }
@@ -128,11 +128,11 @@ room journal = length journal / entrySize dataSize
 abbrev pub needed : Code → List ℕ → ℕ → ℕ → ℕ
 needed code image a b = neededRun (readerOf (openedOf code) dataSize) image a b
 
--- the bytes of an entry: stamp and record number, low byte first, verdict, place, the record as read and as left
-abbrev pub entryOf : ℕ → ℕ → ℕ → ℕ → List ℕ → List ℕ → List ℕ
-entryOf stamp i verdict place before after =
+-- the bytes of an entry: stamp and record number, low byte first, verdict, place, syndrome, low byte first, the record as read and as left
+abbrev pub entryOf : ℕ → ℕ → ℕ → ℕ → ℕ → List ℕ → List ℕ → List ℕ
+entryOf stamp i verdict place syndrome before after =
     (stamp % 256 ∷ stamp / 256 % 256 ∷ stamp / 256 / 256 % 256 ∷ stamp / 256 / 256 / 256 % 256
-    ∷ i % 256 ∷ i / 256 % 256 ∷ verdict ∷ place ∷ [])
+    ∷ i % 256 ∷ i / 256 % 256 ∷ verdict ∷ place ∷ syndrome % 256 ∷ syndrome / 256 % 256 ∷ [])
     ++ (before ++ after)
 
 -- reading the word that the record i says
@@ -145,6 +145,10 @@ verdictOf code image i = cond (eqb (readAt code image i .number) 7) 5 (readAt co
 
 abbrev pub placeFor : Code → List ℕ → ℕ → ℕ
 placeFor code image i = cond (eqb (readAt code image i .number) 7) 255 (readAt code image i .place)
+
+-- and its syndrome: that of the reading, so 0 for a stray word
+abbrev pub syndromeFor : Code → List ℕ → ℕ → ℕ
+syndromeFor code image i = readAt code image i .syndrome
 
 -- a pass: its answer, image and journal afterwards, and that it is done
 abbrev pub answerOf : Code → Pass → State → PassAnswer

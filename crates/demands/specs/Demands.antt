@@ -46,7 +46,7 @@ use Rattle.byte_errors.specs.Steps.{damaged, NoError, CheckError, DataError, No
 use Rattle.desk.specs.Answers.{checkBitsOf, judgementOf, rowsOf, writtenOf, readOf, explainedOf, cardsOf, byteWritten, byteRead}
 use Rattle.demands.specs.Definitions.{Handed, Stored, Accepted, Refused, dataColumns, placesOf, Unstrayed, read, HandsBack, Clean}
 use Rattle.demands.specs.Definitions.{explanations, explanationsOf, told, onlyNumber, refusedRows, refusedWriting, refusedReading, refusedListing}
-use Rattle.demands.specs.Definitions.{cardsFor, refusedCards, allZero, PassRefused, recordOf, entryAt, room, needed, readAt, verdictOf, placeFor}
+use Rattle.demands.specs.Definitions.{cardsFor, refusedCards, allZero, PassRefused, recordOf, entryAt, room, needed, readAt, verdictOf, placeFor, syndromeFor}
 use Rattle.demands.specs.Definitions.{answerOf, imageAfter, journalAfter, Done, stateAfter, Turn, turnsAfter, Stamped, AllStamped, newEntries}
 use Rattle.demands.specs.Definitions.{countFrom}
 use Rattle.demands.specs.Definitions as words
@@ -58,9 +58,9 @@ use Rattle.demands.specs.Bytes.{IsByte, Pattern, handing}
 
 -- ---- records and entries
 
--- Records have 10 bytes, entries 28, and an image at most 65,530.
+-- Records have 10 bytes, entries 30, and an image at most 65,530.
 abbrev pub Sizes : Type 0
-Sizes = (recordSize dataSize ≡ 10) × (entrySize dataSize ≡ 28) × (imageLimit dataSize ≡ 65530)
+Sizes = (recordSize dataSize ≡ 10) × (entrySize dataSize ≡ 30) × (imageLimit dataSize ≡ 65530)
 
 -- A record's bytes say data and check bits, and these the bytes: each word has one record, each record one word.
 abbrev pub RecordsRead : Type 0
@@ -69,11 +69,11 @@ RecordsRead =
     × ((low check : ℕ) → low < 2 ^ 64 → check < 2 ^ 16
     → (dataIn dataSize (recordBytes dataSize low check) ≡ low) × (checkIn dataSize (recordBytes dataSize low check) ≡ check))
 
--- An entry's bytes say a pass's stamp, a record's number, verdict and place and its bytes before and after, and these the bytes.
+-- An entry's bytes say a pass's stamp, a record's number, verdict, place and syndrome and its bytes before and after, and these the bytes.
 abbrev pub EntriesRead : Type 0
 EntriesRead =
-    ((bytes : List ℕ) → AllBytes bytes → length bytes ≡ 28 → entryBytes (entryIn dataSize bytes) ≡ bytes)
-    × ((e : Entry) → e .stamp < 2 ^ 32 → e .number < 2 ^ 16 → length (e .before) ≡ 10 → length (e .after) ≡ 10
+    ((bytes : List ℕ) → AllBytes bytes → length bytes ≡ 30 → entryBytes (entryIn dataSize bytes) ≡ bytes)
+    × ((e : Entry) → e .stamp < 2 ^ 32 → e .number < 2 ^ 16 → e .syndrome < 2 ^ 16 → length (e .before) ≡ 10 → length (e .after) ≡ 10
     → entryIn dataSize (entryBytes e) ≡ e)
 
 -- ---- the code
@@ -205,6 +205,16 @@ PlaceNamed =
     let a = readOf code low high in
     ((a .verdict ≡ 1) ⊎ (a .verdict ≡ 2) → (a .place < placesOf code) × (column (matrixOf code) (a .place) ≡ s))
     × (a .verdict ≢ 1 → a .verdict ≢ 2 → a .place ≡ 255)
+
+-- The syndrome handed back is document 01's; it is 0 exactly for clean, and for verdicts 1 and 2 the column of the place. (A refused
+-- reading hands back 0: `ReadingRefuses`.)
+abbrev pub SyndromeTold : Type 0
+SyndromeTold =
+    (code : Code) → Accepted code → (low high : ℕ) → low < 2 ^ code .k → high < 2 ^ code .r
+    → let a = readOf code low high in
+    (a .syndrome ≡ bitXor (writtenOf code low .check) high)
+    × ((a .syndrome ≡ 0) ↔ (a .verdict ≡ 0))
+    × ((a .verdict ≡ 1) ⊎ (a .verdict ≡ 2) → column (matrixOf code) (a .place) ≡ a .syndrome)
 
 -- One flipped place of a clean word is found, 1 for a data bit and 2 for a check bit, named, and put right.
 abbrev pub OneFlip : Type 0
@@ -415,8 +425,8 @@ PassRecords =
     × (v ≢ 1 → v ≢ 2 → recordOf (imageAfter code p s) i ≡ recordOf (s .image) i)
 
 -- Each record of the run with a verdict 1 to 5 has its entry, right behind those in use and those of the run's records before it: the
--- pass's stamp, number, verdict, place, the bytes as read and the bytes as left. There are no other new entries, and the journal's bytes
--- past them stay.
+-- pass's stamp, number, verdict, place, the reading's syndrome, the bytes as read and the bytes as left. There are no other new entries,
+-- and the journal's bytes past them stay.
 abbrev pub PassEntries : Type 0
 PassEntries =
     (code : Code) → Handed code → (p : Pass) (s : State) → Done code p s
@@ -424,8 +434,8 @@ PassEntries =
     let end = (s .used + before (p .end)) * entrySize dataSize in
     ((i : ℕ) → p .start ≤ i → i < p .end → verdictOf code (s .image) i ≢ 0
     → entryAt (journalAfter code p s) (s .used + before i)
-    ≡ words.entryOf (p .stamp) i (verdictOf code (s .image) i) (placeFor code (s .image) i) (recordOf (s .image) i)
-    (recordOf (imageAfter code p s) i))
+    ≡ words.entryOf (p .stamp) i (verdictOf code (s .image) i) (placeFor code (s .image) i) (syndromeFor code (s .image) i)
+    (recordOf (s .image) i) (recordOf (imageAfter code p s) i))
     × ((m : ℕ) → m < before (p .end)
     → (i : ℕ) × (p .start ≤ i) × (i < p .end) × (verdictOf code (s .image) i ≢ 0) × (before i ≡ m))
     × (drop end (journalAfter code p s) ≡ drop end (s .journal))

@@ -32,7 +32,7 @@ use Rattle.desk.specs.declared.ReadWord.{ReadWord}
 
 -- the version of what a caller links: raised by each landing that changes a struct, a size or a meaning
 abbrev pub version : ℕ
-version = 4
+version = 5
 
 abbrev pub checkBitsOf : ℕ → CheckBits
 checkBitsOf k = wantedOf k
@@ -59,6 +59,7 @@ narrowed a =
       place = a .place;
       «data» = a .word .low;
       check = a .word .check;
+      syndrome = a .syndrome;
     }
 
 abbrev pub readOf : Code → ℕ → ℕ → ReadWord

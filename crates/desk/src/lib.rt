@@ -22,7 +22,7 @@ use word::CheckWord;
 use word::Word;
 
 // The version of what a caller links: raised by each landing that changes a struct, a size or a meaning.
-const VERSION: usize = 4;
+const VERSION: usize = 5;
 
 #[no_mangle]
 pub extern "C" fn desk_version() -> usize
@@ -63,7 +63,7 @@ pub extern "C" fn desk_write(code: Code, data: u64) -> CheckWord
     word::write(code::open_code(code), data, 0)
 }
 
-// Reading: verdict, place, and the word handed back.
+// Reading: verdict, place, the word handed back, and the syndrome.
 #[repr(C)]
 pub struct ReadWord {
     pub number: usize,
@@ -72,6 +72,7 @@ pub struct ReadWord {
     pub place: usize,
     pub data: u64,
     pub check: u16,
+    pub syndrome: u16,
 }
 
 #[no_mangle]
@@ -92,6 +93,7 @@ pub extern "C" fn desk_read(code: Code, data: u64, check: u16) -> ReadWord
         place: reading.place,
         data: handed.low,
         check: handed.check,
+        syndrome: reading.syndrome,
     }
 }
 

@@ -12,7 +12,7 @@ run-by-run image b c h g = (text-next image b c h g, sym (totals-next image b c 
 
 pub lines-say : promises.LinesSay
 unfolding lineOf
-lines-say e h b a = let said = head-said dataSize e h in λ i. entryLine (said .0 i) (said .1 i) (said .2 i)
+lines-say e h y b a = let said = head-said dataSize e h y in λ i. entryLine (said .0 i) (said .1 i) (said .2 i) (said .3 i)
 
 pub digits-say : promises.DigitsSay
 digits-say = decimal-says

@@ -5,7 +5,7 @@ use mathlib.Core.List.{List, _++_}
 use Prim.Native.Nat.{ℕ, _≤_, _<_}
 use lib.ListN.{length}
 use Rattle.record.specs.Bytes.{byteSpan}
-use Rattle.record.specs.Layout.{dataSize, recordSize, numberSize, Entry, entryBytes}
+use Rattle.record.specs.Layout.{dataSize, recordSize, numberSize, syndromeSize, Entry, entryBytes}
 use Rattle.over_run.specs.Whole.{recordsIn}
 use Rattle.report.specs.Text.{decimalOf, saidFrom, entryLine, lineOf}
 use Rattle.report.specs.Totals.{addedTo}
@@ -20,11 +20,12 @@ RunByRun =
     × (asTotals (runTally image 0 c) ≡ addedTo (asTotals (runTally image 0 b)) (runTally (runLeft image 0 b) b c))
     × (runLeft image 0 c ≡ runLeft (runLeft image 0 b) b c)
 
--- The line of an entry's bytes is the entry's record number, verdict and place, in decimal.
+-- The line of an entry's bytes is the entry's record number, verdict, place and syndrome, in decimal.
 abbrev pub LinesSay : Type 0
 LinesSay =
-    (e : Entry) → e .number < byteSpan numberSize → length (e .before) ≡ recordSize dataSize → length (e .after) ≡ recordSize dataSize
-    → lineOf (entryBytes e) ≡ entryLine (e .number) (e .verdict) (e .place)
+    (e : Entry) → e .number < byteSpan numberSize → e .syndrome < byteSpan syndromeSize
+    → length (e .before) ≡ recordSize dataSize → length (e .after) ≡ recordSize dataSize
+    → lineOf (entryBytes e) ≡ entryLine (e .number) (e .verdict) (e .place) (e .syndrome)
 
 -- The digits that are printed for a number say it.
 abbrev pub DigitsSay : Type 0

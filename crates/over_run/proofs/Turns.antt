@@ -14,7 +14,8 @@ use Rattle.record.specs.Journal.{unclean, neededOf, entriesOf}
 use Rattle.runs.proofs.Run.{record-length, record-next, record-kept, gather-write, sum-mono, length-left}
 use Rattle.runs.proofs.Journal.{needed-more, entries-write, length-entries}
 use Rattle.word.specs.declared.Verdict.{Verdict}
-use Rattle.at_record.specs.Outcome.{Reader, seen, leftBy, entryBy, verdictOf, leftOf, entryOf}
+use Rattle.word.specs.declared.Sight.{Sight}
+use Rattle.at_record.specs.Outcome.{Reader, seen, sight, leftBy, entryBy, verdictOf, leftOf, entryOf}
 use Rattle.over_run.specs.Whole.{recordsIn, neededBy}
 use Rattle.at_record.proofs.Outcomes.{length-leftOf, length-entryOf, clean-kept}
 
@@ -69,15 +70,16 @@ module _ (f : Reader) (run : List ℕ) where
     left-clean now e v = e ∙ sym (record-kept size (λ j. leftOf f) (λ j. length-leftOf f) run i fits (clean-kept f rec v))
 
     -- its entry is written behind those before it
-    pub entries-next : (stamp first : ℕ) (journal now ys : List ℕ) (used n : ℕ) (v : Verdict) (bytes : List ℕ) → verdictOf f rec ≢ 0
+    pub entries-next : (stamp first : ℕ) (journal now ys : List ℕ) (used n : ℕ) (v : Sight) (bytes : List ℕ) → verdictOf f rec ≢ 0
         → now ≡ over (inBytes (entriesTo f stamp first run i)) journal → used ≡ entrySize (f .d) * countTo f run i
         → n ≡ entrySize (f .d)
-        → v ≡ seen f rec → bytes ≡ rec → ys ≡ entryBytes (entryBy (f .d) (f .k) stamp (first + i) v bytes)
+        → v ≡ sight f rec → bytes ≡ rec
+        → ys ≡ entryBytes (entryBy (f .d) (f .k) stamp (first + i) (v .verdict) (v .syndrome) bytes)
         → putMid used n now ys ≡ over (inBytes (entriesTo f stamp first run (i + 1))) journal
     unfolding entryOf
     entries-next stamp first journal now ys used n v bytes w e u m s h g =
         let same : ys ≡ entryBytes (entryOf f stamp (first + i) rec) =
-        g ∙ ap₂ (λ x l. entryBytes (entryBy (f .d) (f .k) stamp (first + i) x l)) s h in
+        g ∙ ap₂ (λ (x : Sight) (l : List ℕ). entryBytes (entryBy (f .d) (f .k) stamp (first + i) (x .verdict) (x .syndrome) l)) s h in
         entries-write size (verdictOf f) run i (entryOf f stamp) first journal now ys used n w e
         (length-entries size (verdictOf f) (entryOf f stamp) first run (entrySize (f .d)) (length-entryOf f stamp) i fits-before ∙ sym u)
         same (ap length same ∙ length-entryOf f stamp (first + i) rec size-at ∙ sym m)

@@ -20,7 +20,9 @@ pub fn needed(columns: &[u16], k: usize, rows: u16, d: usize, run: &[u8]) -> usi
     while i < n {
         let at = i * size;
         let end = at + size;
-        let finding = word::finding_of(at_record::look(columns, k, rows, d, &run[at..end]));
+        let sight = at_record::look(columns, k, rows, d, &run[at..end]);
+        let verdict = sight.verdict;
+        let finding = word::finding_of(verdict);
         i += 1;
         if finding.verdict != 0 {
             count += 1;
@@ -56,7 +58,8 @@ pub fn pass_run(
         let at = i * size;
         let end = at + size;
         let number = (first + i) as u16;
-        let verdict = at_record::look(columns, k, rows, d, &run[at..end]);
+        let sight = at_record::look(columns, k, rows, d, &run[at..end]);
+        let verdict = sight.verdict;
         let finding = word::finding_of(verdict);
         let found = finding.verdict as u8;
         tally = tally.counted(found);
@@ -70,7 +73,7 @@ pub fn pass_run(
                 k,
                 stamp,
                 number,
-                verdict,
+                sight,
             );
             used = to;
         }

@@ -12,7 +12,7 @@ use lib.Dec.{eqb}
 use lib.ListN.{length, take, drop, length-append, take-append-drop}
 use lib.Seq.{take-at, drop-at, drop-drop, length-take-le}
 use Rattle.record.specs.Bytes.{byteSpan}
-use Rattle.record.specs.Layout.{recordSize, stampSize, numberSize, entrySize, imageLimit, Entry, entryBytes, entryIn, inBytes}
+use Rattle.record.specs.Layout.{recordSize, stampSize, numberSize, syndromeSize, entrySize, imageLimit, Entry, entryBytes, entryIn, inBytes}
 use Rattle.record.specs.Run.{recordAt, gather, over, fromRecord, overRun}
 use Rattle.record.specs.Journal.{noted, entriesFrom, putRecord, applied, appliedAll}
 use Rattle.runs.proofs.Run.{record-length, record-drop, fits-less}
@@ -20,7 +20,7 @@ use Rattle.runs.proofs.Entries.{entry-back, length-entry}
 use Rattle.runs.proofs.Image.{after-stays, run-split}
 use Rattle.code.specs.declared.Opened.{Opened}
 use Rattle.code.specs.declared.Standing.the-variants as standing
-use Rattle.at_record.specs.Outcome.{Reader, verdictOf, leftOf, entryOf}
+use Rattle.at_record.specs.Outcome.{Reader, syndromeOf, verdictOf, leftOf, entryOf}
 use Rattle.at_record.proofs.Outcomes.{length-leftOf, clean-kept}
 use Rattle.over_run.specs.Whole.{recordsIn}
 use Rattle.over_run.proofs.Sizes.{number-below}
@@ -110,6 +110,7 @@ module _ (f : Reader) (stamp : ℕ) (image : List ℕ) (a : ℕ) where
 pub record Enters (d : ℕ) (e : Entry) : Type 0 where
   pub stamp-fits : e .stamp < byteSpan stampSize
   pub number-fits : e .number < byteSpan numberSize
+  pub syndrome-fits : e .syndrome < byteSpan syndromeSize
   pub before-fits : length (e .before) ≡ recordSize d
   pub after-fits : length (e .after) ≡ recordSize d
 
@@ -136,12 +137,13 @@ entries-read d (e ∷ es) front rest m h v =
     ∙ take-at (entryBytes e) (more ++ rest) size long in
     let group : front ++ (entryBytes e ++ more ++ rest) ≡ front ++ entryBytes e ++ (more ++ rest) = simp append-assoc in
     ap₂ (λ x xs. x ∷ xs)
-    (ap (entryIn d) here ∙ entry-back d e (q .stamp-fits) (q .number-fits) (q .before-fits) (q .after-fits))
+    (ap (entryIn d) here ∙ entry-back d e (q .stamp-fits) (q .number-fits) (q .syndrome-fits) (q .before-fits) (q .after-fits))
     (ap (λ l. entriesFrom d l (suc m) (length es)) group
     ∙ entries-read d es (front ++ entryBytes e) rest (suc m) (omega (arith, length-append front (entryBytes e), h, long, suc-mul m size))
     (v .1))
 
-module _ (f : Reader) (stamp : ℕ) (image : List ℕ) (a : ℕ) (small : stamp < byteSpan stampSize) where
+module _ (f : Reader) (stamp : ℕ) (image : List ℕ) (a : ℕ) (small : stamp < byteSpan stampSize)
+    (narrow : (rec : List ℕ) → syndromeOf f rec < byteSpan syndromeSize) where
   -- the entries of a run fit where its records do
   all-noted : (n : ℕ) → (a + n) * recordSize (f .d) ≤ length image → (a + n) < 65536 → AllEnter (f .d) (entries f stamp image a n)
   unfolding gather AllEnter noted byteSpan entryOf leftOf
@@ -155,6 +157,7 @@ module _ (f : Reader) (stamp : ℕ) (image : List ℕ) (a : ℕ) (small : stamp 
       let one : Enters (f .d) (entryOf f stamp (a + n) rec) = record {
         stamp-fits = small;
         number-fits = omega arith;
+        syndrome-fits = narrow rec;
         before-fits = long;
         after-fits = length-leftOf f rec long;
       } in
@@ -168,7 +171,8 @@ module _ (f : Reader) (stamp : ℕ) (image : List ℕ) (a : ℕ) (small : stamp 
 -- ---- a done pass
 
 module _ (o : Opened) (p : Pass) (s : State) (d : ℕ)
-    (taken : o .standing ≡ standing.Accepted) (zero-told : afterPass o d p s .answer .number ≡ 0) where
+    (taken : o .standing ≡ standing.Accepted) (zero-told : afterPass o d p s .answer .number ≡ 0)
+    (narrow : (rec : List ℕ) → syndromeOf (readerOf o d) rec < byteSpan syndromeSize) where
   abbrev now : After
   now = afterPass o d p s
 
@@ -186,7 +190,7 @@ module _ (o : Opened) (p : Pass) (s : State) (d : ℕ)
       let q = asked o d p s taken zero-told in
       let e : p .start + (p .end - p .start) ≡ p .end = omega arith in
       let few : p .end < 65536 = few-records (p .end) (q .run .within) (q .records .short) in
-      all-noted (readerOf o d) (p .stamp) (s .image) (p .start) small (p .end - p .start) (rw e within) (rw e few)
+      all-noted (readerOf o d) (p .stamp) (s .image) (p .start) small narrow (p .end - p .start) (rw e within) (rw e few)
     where
       few-records : (n : ℕ) → n ≤ recordsIn d (s .image) → length (s .image) ≤ imageLimit d → n < 65536
       few-records zero h l = omega arith

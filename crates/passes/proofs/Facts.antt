@@ -20,7 +20,7 @@ use Rattle.code.specs.declared.Standing.the-variants as standing
 use Rattle.word.specs.declared.Verdict.{Verdict}
 use Rattle.word.specs.declared.Verdict.the-variants.{Clean, Data, Check, Even, Odd, Stray}
 use Rattle.word.specs.Verdicts.{findingOf, mendedBy}
-use Rattle.at_record.specs.Outcome.{Reader, wordIn, recordOf, seen, leftBy, verdictOf, leftOf, entryOf}
+use Rattle.at_record.specs.Outcome.{Reader, wordIn, recordOf, seen, syndromeOf, leftBy, verdictOf, leftOf, entryOf}
 use Rattle.over_run.specs.Whole.{recordsIn}
 use Rattle.pass.specs.Pass.{Pass, State, After, passOver, notedRun, neededRun, countRun, tallyRun, roomIn, behind, readerOf, afterPass}
 use Rattle.pass.specs.Asked.{Askable}
@@ -66,6 +66,7 @@ module _ (f : Reader) where
         number = n;
         verdict = findingOf (seen f rec) .verdict;
         place = findingOf (seen f rec) .place;
+        syndrome = syndromeOf f rec;
         before = rec;
         after = leftOf f rec;
       }
@@ -208,6 +209,7 @@ module _ (o : Opened) (d : ℕ) (p : Pass) (s : State)
         number = i;
         verdict = findingOf (seen f rec) .verdict;
         place = findingOf (seen f rec) .place;
+        syndrome = syndromeOf f rec;
         before = rec;
         after = recordAt (recordSize d) (now .image) i;
       }
@@ -247,6 +249,7 @@ module _ (o : Opened) (d : ℕ) (p : Pass) (s : State)
           number = i;
           verdict = g .verdict;
           place = g .place;
+          syndrome = syndromeOf f rec;
           before = rec;
           after = z;
         }) (sym record-left))

@@ -6,7 +6,7 @@ use native.Mathlib.Omega.{arith}
 use lib.ListN.{length, getD, take, drop, length-append, length-take}
 use lib.Seq.{drop-at}
 use Rattle.record.specs.Bytes.{numberOf, byteSpan, AllBytes}
-use Rattle.record.specs.Layout.{stampSize, numberSize, dataSize, entrySize}
+use Rattle.record.specs.Layout.{stampSize, numberSize, syndromeSize, dataSize, entrySize}
 use Rattle.record.specs.Run.{recordAt, gather, over}
 use Rattle.record.proofs.Bytes.{number-fits}
 use Rattle.runs.proofs.Numbers.{bytes-part}
@@ -38,10 +38,12 @@ refused-short n h = simp length-append (omega (arith, decimal-short 19 n (omega 
 
 -- ---- an entry
 
-pub entry-short : (n verdict place : ℕ) → n < 10 ^ 5 → verdict < 10 ^ 3 → place < 10 ^ 3 → length (entryLine n verdict place) ≤ lineSize
+pub entry-short : (n verdict place syndrome : ℕ) → n < 10 ^ 5 → verdict < 10 ^ 3 → place < 10 ^ 3 → syndrome < 10 ^ 5
+    → length (entryLine n verdict place syndrome) ≤ lineSize
 unfolding entryLine codes filled
-entry-short n verdict place h v p =
-    simp length-append (omega (arith, decimal-short 4 n h, decimal-short 2 verdict v, decimal-short 2 place p))
+entry-short n verdict place syndrome h v p y =
+    simp length-append
+    (omega (arith, decimal-short 4 n h, decimal-short 2 verdict v, decimal-short 2 place p, decimal-short 4 syndrome y))
 
 pub line-short : (entry : List ℕ) → AllBytes entry → length (lineOf entry) ≤ lineSize
 unfolding lineOf byteSpan
@@ -49,12 +51,16 @@ line-short entry h =
     let number : List ℕ = take numberSize (drop stampSize entry) in
     let few : numberOf number < byteSpan 2 = number-fits 2 number (bytes-part stampSize 2 entry h) (simp length-take (omega arith)) in
     let at : ℕ = stampSize + numberSize in
-    entry-short (numberOf number) (getD entry at 0) (getD entry (at + 1) 0) (omega arith) (omega (arith, h at)) (omega (arith, h (at + 1)))
+    let syndrome : List ℕ = take syndromeSize (drop (at + 2) entry) in
+    let thin : numberOf syndrome < byteSpan 2 = number-fits 2 syndrome (bytes-part (at + 2) 2 entry h) (simp length-take (omega arith)) in
+    entry-short (numberOf number) (getD entry at 0) (getD entry (at + 1) 0) (numberOf syndrome)
+    (omega arith) (omega (arith, h at)) (omega (arith, h (at + 1))) (omega arith)
 
-pub line-is : (entry : List ℕ) (n : ℕ) → n ≡ numberOf (take numberSize (drop stampSize entry))
-    → entryLine n (getD entry (stampSize + numberSize) 0) (getD entry (stampSize + numberSize + 1) 0) ≡ lineOf entry
+pub line-is : (entry : List ℕ) (n syndrome : ℕ) → n ≡ numberOf (take numberSize (drop stampSize entry))
+    → syndrome ≡ numberOf (take syndromeSize (drop (stampSize + numberSize + 2) entry))
+    → entryLine n (getD entry (stampSize + numberSize) 0) (getD entry (stampSize + numberSize + 1) 0) syndrome ≡ lineOf entry
 unfolding lineOf
-line-is entry n e = rw e
+line-is entry n syndrome e y = rw (e, y)
 
 -- ---- a journal
 

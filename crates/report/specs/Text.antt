@@ -56,21 +56,23 @@ written at text d = take at d ++ over text (drop at d)
 abbrev pub Held : ℕ → List ℕ → Type 0
 Held n d = (n ≤ length d) × (n ≡ length (take n d))
 
--- ---- an entry: record, verdict, place
+-- ---- an entry: record, verdict, place, syndrome
 
-unfoldable pub entryLine : ℕ → ℕ → ℕ → List ℕ
-entryLine n verdict place = filled (codes "# # #\n") (n ∷ verdict ∷ place ∷ [])
+unfoldable pub entryLine : ℕ → ℕ → ℕ → ℕ → List ℕ
+entryLine n verdict place syndrome = filled (codes "# # # #\n") (n ∷ verdict ∷ place ∷ syndrome ∷ [])
 
 -- the line of an entry's bytes, and the lines of a whole journal
 unfoldable pub lineOf : List ℕ → List ℕ
-lineOf bytes = entryLine (entryIn dataSize bytes .number) (entryIn dataSize bytes .verdict) (entryIn dataSize bytes .place)
+lineOf bytes =
+    let e = entryIn dataSize bytes in
+    entryLine (e .number) (e .verdict) (e .place) (e .syndrome)
 
 unfoldable pub journalText : List ℕ → List ℕ
 journalText journal = gather (entrySize dataSize) (λ i. lineOf) journal (length journal / entrySize dataSize)
 
--- a line has at most 5, 3 and 3 digits, each with a character after it
+-- a line has at most 5, 3, 3 and 5 digits, each with a character after it
 abbrev pub lineSize : ℕ
-lineSize = 14
+lineSize = 20
 
 -- ---- the tally, and a refusal
 

@@ -7,13 +7,15 @@ ghost use Rattle.record.specs.Run.{over};
 ghost use Rattle.report.specs.Text.{decimalOf, filled, holesIn, lineOf, journalText, lineSize, tallyText, refusedText, written, Held};
 ghost use Rattle.report.specs.Totals.{noTotals, addedTo, totalLimit, Within};
 use record::ENTRY;
+use record::HEAD;
 use record::PLACE;
 use record::STAMP;
+use record::SYNDROME;
 use record::Tally;
 use record::VERDICT;
 
 // The most bytes of an entry's line, of the tally's line and of a refusal.
-pub const LINE: usize = 14;
+pub const LINE: usize = 20;
 
 pub const TALLY_LINE: usize = 158;
 
@@ -72,7 +74,8 @@ fn put_entry_line(out: &mut [u8], at: usize, entry: &[u8]) -> usize
     let n = record::number(&entry[STAMP..VERDICT]) as usize;
     let verdict = entry[VERDICT] as usize;
     let place = entry[PLACE] as usize;
-    put_filled(out, at, b"# # #\n", &[n, verdict, place])
+    let syndrome = record::number(&entry[SYNDROME..HEAD]) as usize;
+    put_filled(out, at, b"# # # #\n", &[n, verdict, place, syndrome])
 }
 
 // The lines of a journal's entries, from the first byte on; answers how many bytes.

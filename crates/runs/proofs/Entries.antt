@@ -7,13 +7,13 @@ use native.Mathlib.Omega.{arith}
 use lib.ListN.{length, getD, take, drop, length-append, length-drop, take-append-drop}
 use lib.Seq.{take-at, drop-at, take-all, take-add, drop-cons, drop-drop, length-take-le}
 use Rattle.record.specs.Bytes.{numberOf, bytesOf, byteSpan, AllBytes}
-use Rattle.record.specs.Layout.{recordSize, stampSize, numberSize, headSize, entrySize, Entry, headBytes, entryBytes, entryIn, inBytes}
+use Rattle.record.specs.Layout.{recordSize, stampSize, numberSize, syndromeSize, headSize, entrySize, Entry, headBytes, entryBytes, entryIn, inBytes}
 use Rattle.record.proofs.Over.{part-length}
 use Rattle.runs.proofs.Numbers.{bytes-take, bytes-part, number-bytes, bytes-number}
 
-pub length-head : (s n v p : ℕ) → length (headBytes s n v p) ≡ headSize
+pub length-head : (s n v p y : ℕ) → length (headBytes s n v p y) ≡ headSize
 unfolding headBytes bytesOf
-length-head s n v p = refl
+length-head s n v p y = refl
 
 pub length-entry : (e : Entry) → length (entryBytes e) ≡ headSize + (length (e .before) + length (e .after))
 length-entry e = simp (length-append, length-head)
@@ -49,6 +49,10 @@ module _ (e : Entry) where
   unfolding headBytes bytesOf
   place-next = refl
 
+  syndrome-next : take syndromeSize (drop (stampSize + numberSize + 2) (entryBytes e)) ≡ bytesOf syndromeSize (e .syndrome)
+  unfolding headBytes bytesOf
+  syndrome-next = refl
+
   records-behind : drop headSize (entryBytes e) ≡ e .before ++ e .after
   unfolding headBytes bytesOf
   records-behind = refl
@@ -58,24 +62,32 @@ module _ (e : Entry) where
       sym (drop-drop n headSize (entryBytes e)) ∙ ap (drop n) records-behind ∙ drop-at (e .before) (e .after) n b
 
 -- what its head says, whatever stamp and records are
-pub head-said : (d : ℕ) (e : Entry) → e .number < byteSpan numberSize
+pub head-said : (d : ℕ) (e : Entry) → e .number < byteSpan numberSize → e .syndrome < byteSpan syndromeSize
     → (entryIn d (entryBytes e) .number ≡ e .number)
     × (entryIn d (entryBytes e) .verdict ≡ e .verdict)
     × (entryIn d (entryBytes e) .place ≡ e .place)
-head-said d e n = (ap numberOf (number-next e) ∙ number-bytes numberSize (e .number) n, verdict-next e, place-next e)
+    × (entryIn d (entryBytes e) .syndrome ≡ e .syndrome)
+head-said d e n y = (
+  ap numberOf (number-next e) ∙ number-bytes numberSize (e .number) n,
+  verdict-next e,
+  place-next e,
+  ap numberOf (syndrome-next e) ∙ number-bytes syndromeSize (e .syndrome) y,
+)
 
 -- and its stamp, as four bytes say it
 pub stamp-said : (d : ℕ) (e : Entry) → entryIn d (entryBytes e) .stamp ≡ numberOf (bytesOf stampSize (e .stamp))
 stamp-said d e = ap numberOf (stamp-first e)
 
 pub entry-back : (d : ℕ) (e : Entry) → e .stamp < byteSpan stampSize → e .number < byteSpan numberSize
+    → e .syndrome < byteSpan syndromeSize
     → length (e .before) ≡ recordSize d → length (e .after) ≡ recordSize d → entryIn d (entryBytes e) ≡ e
-entry-back d e s n b a =
+entry-back d e s n y b a =
     λ i. record {
       stamp = (ap numberOf (stamp-first e) ∙ number-bytes stampSize (e .stamp) s) i;
       number = (ap numberOf (number-next e) ∙ number-bytes numberSize (e .number) n) i;
       verdict = verdict-next e i;
       place = place-next e i;
+      syndrome = (ap numberOf (syndrome-next e) ∙ number-bytes syndromeSize (e .syndrome) y) i;
       before = (ap (take (recordSize d)) (records-behind e) ∙ take-at (e .before) (e .after) (recordSize d) b) i;
       after = (ap (take (recordSize d)) (after-behind e (recordSize d) b) ∙ take-all (recordSize d) (e .after) (omega arith)) i;
     }
@@ -102,13 +114,30 @@ entry-read d bytes h e =
     marks : List ℕ
     marks = getD bytes (stampSize + numberSize) 0 ∷ getD bytes (stampSize + numberSize + 1) 0 ∷ []
 
-    head : headBytes (numberOf (take stampSize bytes)) (numberOf next) (getD bytes (stampSize + numberSize) 0)
-        (getD bytes (stampSize + numberSize + 1) 0) ≡ take headSize bytes
-    head =
-        ap₂ (λ (s n : List ℕ). s ++ (n ++ marks)) stamp number
-        ∙ sym (append-assoc (take stampSize bytes) next marks)
+    last : List ℕ
+    last = take syndromeSize (drop (stampSize + numberSize + 2) bytes)
+
+    syndrome : bytesOf syndromeSize (numberOf last) ≡ last
+    syndrome =
+        bytes-number syndromeSize last (bytes-part (stampSize + numberSize + 2) syndromeSize bytes h)
+        (part-length (stampSize + numberSize + 2) syndromeSize bytes (omega arith))
+
+    first : take stampSize bytes ++ (next ++ marks) ≡ take (stampSize + numberSize + 2) bytes
+    first =
+        sym (append-assoc (take stampSize bytes) next marks)
         ∙ ap (λ (l : List ℕ). l ++ marks) (sym (take-add stampSize numberSize bytes))
         ∙ two-more bytes (stampSize + numberSize) (omega arith)
+
+    grouped : take stampSize bytes ++ (next ++ (marks ++ last)) ≡ take stampSize bytes ++ (next ++ marks) ++ last
+    grouped = simp append-assoc
+
+    head : headBytes (numberOf (take stampSize bytes)) (numberOf next) (getD bytes (stampSize + numberSize) 0)
+        (getD bytes (stampSize + numberSize + 1) 0) (numberOf last) ≡ take headSize bytes
+    head =
+        (λ i. stamp i ++ (number i ++ (marks ++ syndrome i)))
+        ∙ grouped
+        ∙ ap (λ (l : List ℕ). l ++ last) first
+        ∙ sym (take-add (stampSize + numberSize + 2) syndromeSize bytes)
 
     behind : length (drop (recordSize d) (drop headSize bytes)) ≤ recordSize d
     behind = simp length-drop (omega arith)

@@ -151,9 +151,10 @@ module _ (rows : ℕ) (cs : List ℕ) (k : ℕ) (fits : k ≤ length cs) (good :
   }
 
 -- a stray word is refused by 7, and zeros are handed back
-pub stray-refused : (k : ℕ) (w : Word)
-    → readingBy Stray k w ≡ record { number = 7; told = 0; verdict = 0; place = 0; word = record { low = 0; high = 0; check = 0 } }
-stray-refused k w = refl
+pub stray-refused : (s k : ℕ) (w : Word)
+    → readingBy Stray s k w
+    ≡ record { number = 7; told = 0; verdict = 0; place = 0; syndrome = 0; word = record { low = 0; high = 0; check = 0 } }
+stray-refused s k w = refl
 
 pub stray-unwritten : (cs : List ℕ) (k bits : ℕ) → 2 ^ k ≤ bits → writeIn cs k bits ≡ record { number = 7; told = 0; check = 0 }
 unfolding writeIn

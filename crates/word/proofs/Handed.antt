@@ -33,10 +33,10 @@ module _ (k p : ℕ) (w : Word) where
 abbrev pub answered : List ℕ
 answered = 0 ∷ 1 ∷ 2 ∷ 3 ∷ 4 ∷ []
 
-pub reading-given : (v : Verdict) (k : ℕ) (w : Word) → OneOf answered (tagOf the-type v) → readingBy v k w ≡ givenReading v k w
-reading-given Clean k w h = refl
-reading-given (Data p) k w h = refl
-reading-given (Check p) k w h = refl
-reading-given Even k w h = refl
-reading-given Odd k w h = refl
-reading-given Stray k w h = absurd (miss answered 5 tt h)
+pub reading-given : (v : Verdict) (s k : ℕ) (w : Word) → OneOf answered (tagOf the-type v) → readingBy v s k w ≡ givenReading v s k w
+reading-given Clean s k w h = refl
+reading-given (Data p) s k w h = refl
+reading-given (Check p) s k w h = refl
+reading-given Even s k w h = refl
+reading-given Odd s k w h = refl
+reading-given Stray s k w h = absurd (miss answered 5 tt h)

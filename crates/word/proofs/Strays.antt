@@ -14,7 +14,7 @@ use Rattle.parity.specs.Odd.{oddIn}
 use Rattle.word.specs.declared.Word.{Word}
 use Rattle.word.specs.declared.Verdict.the-variants.{Stray}
 use Rattle.word.specs.Word.{joined, asNumber, strays, strayIn}
-use Rattle.word.specs.Verdicts.{verdictOn, readIn}
+use Rattle.word.specs.Verdicts.{verdictOn, readIn, syndromeIn}
 
 -- what is left after moving down by the width
 stray-shift : (width bits : ℕ) → ltb 0 (bits / 2 ^ width) ≡ strays width bits
@@ -66,6 +66,14 @@ module _ (rows : ℕ) (cs : List ℕ) (k : ℕ) (w : Word) where
   pub in-stray : strayIn (length cs) k w ≡ true → readIn rows cs k w ≡ Stray
   unfolding readIn
   in-stray h = simp h
+
+  pub no-syndrome : strayIn (length cs) k w ≡ true → syndromeIn cs k w ≡ 0
+  unfolding syndromeIn
+  no-syndrome h = simp h
+
+  pub in-syndrome : strayIn (length cs) k w ≡ false → syndromeIn cs k w ≡ mix cs (asNumber k w)
+  unfolding syndromeIn
+  in-syndrome h = simp h
 
   pub in-verdict : strayIn (length cs) k w ≡ false → readIn rows cs k w ≡ verdictOn (oddIn rows) cs k (mix cs (asNumber k w))
   unfolding readIn

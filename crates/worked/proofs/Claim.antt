@@ -7,7 +7,7 @@ use Rattle.columns.specs.Solving.{solveFrom, solve}
 use Rattle.code.specs.Judge.{judgeColumn, judgeFrom, judgeColumns, leftoverFrom, judgeRest, judgeIn}
 use Rattle.balance.specs.Balance.{sumOf, balanceAt, balancesFrom}
 use Rattle.word.specs.Word.{flippedIn}
-use Rattle.word.specs.Verdicts.{verdictOn, readIn}
+use Rattle.word.specs.Verdicts.{verdictOn, readIn, syndromeIn}
 use Rattle.word.specs.Writing.{writeIn}
 use Rattle.listing.specs.Sets.{flipAll, chosen, setsUpTo, those, bytesFor}
 use Rattle.explain.specs.Explanations.{explanations, listedIn, explainIn}
@@ -19,6 +19,6 @@ use Rattle.worked.specs.Table.{right, allRight, table}
 
 pub all-hold : allRight table ≡ true
 unfolding allRight table right ones onesIn mix singlesFrom singles placeIn solveFrom solve judgeColumn judgeFrom judgeColumns
-    leftoverFrom judgeRest judgeIn sumOf balanceAt balancesFrom flippedIn verdictOn readIn writeIn flipAll chosen setsUpTo those
+    leftoverFrom judgeRest judgeIn sumOf balanceAt balancesFrom flippedIn verdictOn readIn syndromeIn writeIn flipAll chosen setsUpTo those
     bytesFor explanations listedIn explainIn cutInto weakMask firstFrom tryMask weakMaskIn weakCardIn cardedIn passingFrom byOnes makeNumber
 all-hold = refl

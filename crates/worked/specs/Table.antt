@@ -32,9 +32,9 @@ pub data Case : Type 0 where
   balanced : (code : Code) (number told : ℕ) (rows : List ℤ) → Case
   -- the check bits of the data
   written : (code : Code) (low check : ℕ) → Case
-  -- the syndrome of a word; its verdict, its place and the word handed back
+  -- the syndrome of a word as the check bits written give it; its verdict, its place, the word handed back and the syndrome (02's request 106)
   syndrome : (code : Code) (low high s : ℕ) → Case
-  reads : (code : Code) (low high verdict place data₁ check₁ : ℕ) → Case
+  reads : (code : Code) (low high verdict place data₁ check₁ s : ℕ) → Case
   -- a list of explanations, in a lent buffer of this size: number, told, length, and the bytes afterwards
   listed : (code : Code) (low high limit size number told entries : ℕ) (bytes : List ℕ) → Case
   -- number, told place, card and mask
@@ -70,10 +70,11 @@ right (balanced code number told rows) =
 right (written code low check) =
     eqb (writtenOf code low .number) 0 && eqb (writtenOf code low .told) 0 && eqb (writtenOf code low .check) check
 right (syndrome code low high s) = eqb (bitXor (writtenOf code low .check) high) s
-right (reads code low high verdict place data₁ check₁) =
+right (reads code low high verdict place data₁ check₁ s) =
     eqb (readOf code low high .number) 0 && eqb (readOf code low high .told) 0
     && eqb (readOf code low high .verdict) verdict && eqb (readOf code low high .place) place
     && eqb (readOf code low high .«data») data₁ && eqb (readOf code low high .check) check₁
+    && eqb (readOf code low high .syndrome) s
 right (listed code low high limit size number told entries bytes) =
     eqb (explainedOf code low high limit (lent size) .answer .number) number
     && eqb (explainedOf code low high limit (lent size) .answer .told) told
@@ -96,18 +97,18 @@ table =
     ∷ written sampleCode 0x01 28
     ∷ written sampleCode 0xFF 12
     ∷ written sampleCode 0xA5 27
-    ∷ reads sampleCode 0xA5 27 0 255 0xA5 27
+    ∷ reads sampleCode 0xA5 27 0 255 0xA5 27 0
     ∷ syndrome sampleCode 0xA4 27 28
-    ∷ reads sampleCode 0xA4 27 1 0 0xA5 27
-    ∷ reads sampleCode 0xA5 26 2 8 0xA5 27
+    ∷ reads sampleCode 0xA4 27 1 0 0xA5 27 28
+    ∷ reads sampleCode 0xA5 26 2 8 0xA5 27 1
     ∷ syndrome sampleCode 0xA6 27 6
-    ∷ reads sampleCode 0xA6 27 3 255 0xA6 27
+    ∷ reads sampleCode 0xA6 27 3 255 0xA6 27 6
     ∷ listed sampleCode 0xA6 27 2 13 0 0 5 (0 ∷ 1 ∷ 3 ∷ 12 ∷ 4 ∷ 5 ∷ 6 ∷ 11 ∷ 9 ∷ 10 ∷ lent 3)
     ∷ listed sampleCode 0xA6 27 1 0 0 0 0 []
     ∷ listed sampleCode 0xA6 27 1 3 0 0 0 (lent 3)
     ∷ listed sampleCode 0xA6 27 2 9 10 5 0 (lent 9)
     ∷ syndrome sampleCode 0xA6 26 7
-    ∷ reads sampleCode 0xA6 26 4 255 0xA6 26
+    ∷ reads sampleCode 0xA6 26 4 255 0xA6 26 7
     ∷ listed sampleCode 0xA6 26 0 0 0 0 0 []
     ∷ listed sampleCode 0xA6 26 1 0 0 0 0 []
     ∷ listed sampleCode 0xA6 26 2 4 0 0 0 (lent 4)

@@ -55,8 +55,9 @@ impl Desk for Archive {
     }
 
     fn read(&self, code: &Code, data: u64, check: u16) -> Reading {
-        let ffi::ReadWord { number, told, verdict, place, data, check } = ffi::read(&linked(code), data, check);
-        Reading { number, told, verdict, place, data, check }
+        let answer = ffi::read(&linked(code), data, check);
+        let ffi::ReadWord { number, told, verdict, place, data, check, syndrome } = answer;
+        Reading { number, told, verdict, place, data, check, syndrome }
     }
 
     fn explain(&self, code: &Code, data: u64, check: u16, limit: usize, list: &mut [u8]) -> Explained {
@@ -147,6 +148,7 @@ impl Desk for Wrapper {
             place: reading.place.unwrap_or(255),
             data: reading.word.data,
             check: reading.word.check,
+            syndrome: reading.syndrome,
             ..Reading::default()
         };
         linked(code).read(Word { data, check }).map_or_else(|refusal| refused(refusal).into(), done)

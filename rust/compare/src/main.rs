@@ -108,7 +108,7 @@ fn mend(asked: &Asked, counts: &mut Counts) {
         return;
     }
     let image = [0xA4, 0, 0, 0, 0, 0, 0, 0, 27, 0, 0xA6, 0, 0, 0, 0, 0, 0, 0, 27, 0];
-    let text = "0 1 0\n1 3 255\nclean 0 data 1 check 0 even 1 odd 0 stray 0\n";
+    let text = "0 1 0 28\n1 3 255 6\nclean 0 data 1 check 0 even 1 odd 0 stray 0\n";
     counts.expect("mend: the worked image", &program::mend(&image), text);
     for bytes in [0, 1, 9, 10, 11, 65_520, 65_529, 65_530, 65_531, 65_536, 65_540, 131_060, 1_000_000] {
         let input = vec![0; bytes];

@@ -100,7 +100,7 @@ impl Code {
         done(answer.number, answer.told, answer.check)
     }
 
-    /// What is in the word as read, and the word mended where one flip explains it.
+    /// What is in the word as read, its syndrome, and the word mended where one flip explains it.
     ///
     /// ```
     /// use desk::{Code, Verdict, Word};
@@ -110,6 +110,13 @@ impl Code {
     /// let reading = code.read(Word { data: 0xA5, check: 26 })?;
     /// assert_eq!((reading.verdict, reading.place), (Verdict::Check, Some(8)));
     /// assert_eq!(reading.word, Word { data: 0xA5, check: 27 });
+    ///
+    /// // The syndrome of one flip is the column of its place: row 0 for check bit 0, the data column for a data bit.
+    /// assert_eq!(reading.syndrome, 1);
+    /// assert_eq!(code.read(Word { data: 0xA4, check: 27 })?.syndrome, code.columns[0]);
+    /// // It is what writing the data gives, against the check bits as read.
+    /// let twice = code.read(Word { data: 0xA6, check: 27 })?;
+    /// assert_eq!((twice.verdict, twice.syndrome), (Verdict::Even, code.write(0xA6)? ^ 27));
     /// # Ok(())
     /// # }
     /// ```
@@ -118,7 +125,8 @@ impl Code {
         done(answer.number, answer.told, ())?;
         let verdict = Verdict::of(answer.verdict).expect("a verdict of the table");
         let place = if answer.place == usize::from(NO_PLACE) { None } else { Some(answer.place) };
-        Ok(Reading { verdict, place, word: Word { data: answer.data, check: answer.check } })
+        let word = Word { data: answer.data, check: answer.check };
+        Ok(Reading { verdict, place, syndrome: answer.syndrome, word })
     }
 
     /// All sets of at most `limit` places that explain the word: fewer places first, then the lower first place.
@@ -193,8 +201,9 @@ impl Code {
     /// Passes over a run of the image's records, mends those with one flip, and notes each that is not clean.
     ///
     /// A record has [`RECORD`](crate::RECORD) bytes, an entry of the journal [`ENTRY`](crate::ENTRY). The journal has
-    /// `used` entries in use, which stay; the new ones stand right behind them, each with the pass's `stamp`. Bytes
-    /// outside the run and past the entries stay, and a refusal writes nothing.
+    /// `used` entries in use, which stay; the new ones stand right behind them, each with the pass's `stamp` and with the
+    /// syndrome that reading the record gives, 0 where it is stray. Bytes outside the run and past the entries stay, and a
+    /// refusal writes nothing.
     ///
     /// ```
     /// use desk::{Code, Refusal, ENTRY};
@@ -211,7 +220,8 @@ impl Code {
     /// let passed = code.pass(&mut image, 0..2, &mut journal, 0, 7)?;
     /// assert_eq!((passed.tally.data, passed.tally.even, passed.used), (1, 1, 2));
     /// assert_eq!(image[0], 0xA5);
-    /// assert_eq!(journal[ENTRY..ENTRY + 8], [7, 0, 0, 0, 1, 0, 3, 255]);
+    /// // The second entry: stamp 7, record 1, verdict 3, no place, syndrome 6, and the record as read.
+    /// assert_eq!(journal[ENTRY..ENTRY + 11], [7, 0, 0, 0, 1, 0, 3, 255, 6, 0, 0xA6]);
     /// # Ok(())
     /// # }
     /// ```

@@ -101,6 +101,8 @@ pub struct ReadWord {
     pub data: u64,
     /// The check bits handed back.
     pub check: u16,
+    /// The syndrome of the word as read: 0 exactly where it is clean, the column of the place where there is one.
+    pub syndrome: u16,
 }
 
 /// The answer of [`explain`].
@@ -292,7 +294,7 @@ pub fn write(code: &Code, data: u64) -> CheckWord {
     ask!(desk_write(*code, data))
 }
 
-/// What is in the word as read, and the word mended where one flip explains it; refuses with 7.
+/// What is in the word as read, its syndrome, and the word mended where one flip explains it; refuses with 7.
 pub fn read(code: &Code, data: u64, check: u16) -> ReadWord {
     ask!(desk_read(*code, data, check))
 }

@@ -15,6 +15,7 @@
 //! let reading = code.read(Word { data: 0xA4, check: 27 })?;
 //! assert_eq!(reading.verdict, Verdict::Data);
 //! assert_eq!(reading.place, Some(0));
+//! assert_eq!(reading.syndrome, 28);
 //! assert_eq!(reading.word, Word { data: 0xA5, check: 27 });
 //!
 //! // Two flips are found, and explained.
@@ -56,9 +57,9 @@ pub use word::{Explanation, Reading, Verdict, Word};
 
 /// Bytes of a record: data in 8, check bits in 2, low byte first.
 pub const RECORD: usize = 10;
-/// Bytes of a journal entry: stamp in 4 and record number in 2 (low byte first), verdict, place, 10 bytes as read, 10 as
-/// left.
-pub const ENTRY: usize = 28;
+/// Bytes of a journal entry: stamp in 4, record number in 2, verdict, place, syndrome in 2, 10 bytes as read, 10 as left;
+/// numbers low byte first. The syndrome is that of the record as read, and 0 for a stray one.
+pub const ENTRY: usize = 30;
 /// Bytes of the longest image.
 pub const IMAGE: usize = 65_530;
 /// Bytes that hold any list of explanations.

@@ -96,7 +96,7 @@ refusals! {
     12 ImageLength,
         "image length no multiple of 10, or over 65,530", "the image's length is no multiple of 10, or over 65530";
     13 JournalRoom { needed = told "entries needed" },
-        "journal room left (its length / 28, down, less the entries in use) below the entries needed",
+        "journal room left (its length / 30, down, less the entries in use) below the entries needed",
         "the journal needs room for {needed} more entries";
     14 Run,
         "run's start above its end, or its end above the number of records", "the run does not lie in the image";

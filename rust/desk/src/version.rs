@@ -7,7 +7,7 @@ use std::sync::atomic::{AtomicBool, Ordering};
 ///
 /// The first call through this crate compares it with the archive's own, [`ffi::version`]. Where they differ, that call
 /// and every later one panics.
-pub const VERSION: usize = 4;
+pub const VERSION: usize = 5;
 
 /// Whether the versions were compared and are the same.
 static IS_SAME: AtomicBool = AtomicBool::new(false);

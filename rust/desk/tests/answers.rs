@@ -50,6 +50,10 @@ fn the_journal_has_an_entry_for_each_record_that_the_tally_counts() {
     assert_eq!((passed.used, passed.tally.entries()), (5, 5));
     for (at, entry) in journal.chunks(ENTRY).enumerate() {
         assert_eq!(Verdict::of(entry[6].into()), Some(Verdict::ALL[at + 1]));
+        let (data, check) = words[at + 1];
+        let syndrome = sample().read(Word { data, check }).map_or(0, |reading| reading.syndrome);
+        assert_eq!(u16::from_le_bytes([entry[8], entry[9]]), syndrome);
+        assert_eq!(entry[10..20], record(data, check));
     }
 }
 

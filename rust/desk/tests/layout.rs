@@ -35,7 +35,7 @@ fn rust_lays_out_every_struct_as_c_does() {
         lines!(Judgement { number, told } of Default::default()),
         lines!(RowBalance { number, told, rows } of Default::default()),
         lines!(CheckWord { number, told, check } of Default::default()),
-        lines!(ReadWord { number, told, verdict, place, data, check } of Default::default()),
+        lines!(ReadWord { number, told, verdict, place, data, check, syndrome } of Default::default()),
         lines!(Listing { number, told, length } of Default::default()),
         lines!(CardCheck { number, told, card, mask } of Default::default()),
         lines!(Tally { clean, data, check, even, odd, stray } of Default::default()),

@@ -4,6 +4,7 @@ mod common;
 
 use common::*;
 use desk::ffi::*;
+use desk::ENTRY;
 
 /// The sample with the column at place 5 equal to that at place 4: refused by 6, told 5.
 fn repeated() -> Code {
@@ -60,14 +61,30 @@ fn every_row_of_a_balance() {
 fn writing_and_reading() {
     assert_eq!(write(&sample(), 0xFF), CheckWord { number: 0, told: 0, check: 12 });
     assert_eq!(write(&repeated(), 0xFF), CheckWord { number: 6, told: 5, check: 0 });
-    let back = ReadWord { number: 0, told: 0, verdict: 2, place: 10, data: 0xA6, check: 29 };
+    let back = ReadWord { number: 0, told: 0, verdict: 2, place: 10, data: 0xA6, check: 29, syndrome: 4 };
     assert_eq!(read(&sample(), 0xA6, 25), back);
     assert_eq!(read(&repeated(), 0xA6, 25), ReadWord { number: 6, told: 5, ..ReadWord::default() });
 
     let data = 0x8877_6655_4433_2211;
     let check = write(&full(8), data).check;
-    let back = ReadWord { number: 0, told: 0, verdict: 1, place: 63, data, check };
+    let syndrome = full(8).columns[63];
+    let back = ReadWord { number: 0, told: 0, verdict: 1, place: 63, data, check, syndrome };
     assert_eq!(read(&full(8), data ^ 1 << 63, check), back);
+}
+
+#[test]
+fn the_syndrome_of_every_verdict() {
+    let words = [(0xA5, 27, 0, 0), (0xA4, 27, 1, 28), (0xA5, 26, 2, 1), (0xA6, 27, 3, 6), (0xA6, 26, 4, 7)];
+    for (data, check, verdict, syndrome) in words {
+        let answer = read(&sample(), data, check);
+        assert_eq!((answer.verdict, answer.syndrome), (verdict, syndrome));
+        assert_eq!(syndrome, write(&sample(), data).check ^ check);
+    }
+    let sixteen = code_of(&[0xFFFE], 16);
+    assert_eq!((read(&sixteen, 1, 0).syndrome, read(&sixteen, 1, 0x4000).syndrome), (0xFFFE, 0xBFFE));
+    for (data, check) in [(0x1A4, 27), (0xA5, 59)] {
+        assert_eq!(read(&sample(), data, check), ReadWord { number: 7, ..ReadWord::default() });
+    }
 }
 
 #[test]
@@ -84,11 +101,12 @@ fn a_pass() {
     let refused = PassAnswer { number: 13, told: 20, used: 0, tally: Tally::default() };
     assert_eq!(pass(&sample(), &mut image, 0, 21, &mut [], 0, 0), refused);
 
-    let mut journal = vec![0xEE; 20 * 28 + 7];
+    let mut journal = vec![0xEE; 20 * ENTRY + 7];
     let done = PassAnswer { number: 0, told: 0, used: 20, tally: tally([1, 2, 3, 4, 5, 6]) };
     assert_eq!(pass(&sample(), &mut image, 0, 21, &mut journal, 0, 0x0403_0201), done);
-    assert_eq!(journal[19 * 28..19 * 28 + 8], [1, 2, 3, 4, 20, 0, 5, 255]);
-    assert_eq!(journal[20 * 28..], [0xEE; 7]);
+    assert_eq!(journal[..11], [1, 2, 3, 4, 1, 0, 1, 0, 28, 0, 0xA4]);
+    assert_eq!(journal[19 * ENTRY..][..12], [1, 2, 3, 4, 20, 0, 5, 255, 0, 0, 0, 1]);
+    assert_eq!(journal[20 * ENTRY..], [0xEE; 7]);
 
     let again = PassAnswer { number: 0, told: 0, used: 15, tally: tally([6, 0, 0, 4, 5, 6]) };
     assert_eq!(pass(&sample(), &mut image, 0, 21, &mut journal, 0, 0), again);
@@ -96,22 +114,22 @@ fn a_pass() {
 
 #[test]
 fn passes_follow_one_another_in_one_journal() {
-    let (mut image, mut journal) = (every_verdict(), vec![0xEE; 21 * 28 + 5]);
+    let (mut image, mut journal) = (every_verdict(), vec![0xEE; 21 * ENTRY + 5]);
     let first = PassAnswer { number: 0, told: 0, used: 9, tally: tally([1, 2, 3, 4, 0, 0]) };
     assert_eq!(pass(&sample(), &mut image, 0, 10, &mut journal, 0, 7), first);
     let before = journal.clone();
     let second = PassAnswer { number: 0, told: 0, used: 20, tally: tally([0, 0, 0, 0, 5, 6]) };
     assert_eq!(pass(&sample(), &mut image, 10, 21, &mut journal, first.used, u32::MAX), second);
-    assert_eq!(journal[..9 * 28], before[..9 * 28]);
-    assert_eq!(journal[9 * 28..9 * 28 + 8], [255, 255, 255, 255, 10, 0, 4, 255]);
-    assert_eq!(journal[20 * 28..], [0xEE; 28 + 5]);
+    assert_eq!(journal[..9 * ENTRY], before[..9 * ENTRY]);
+    assert_eq!(journal[9 * ENTRY..][..11], [255, 255, 255, 255, 10, 0, 4, 255, 7, 0, 0xA6]);
+    assert_eq!(journal[20 * ENTRY..], [0xEE; ENTRY + 5]);
 }
 
 #[test]
 fn bytes_outside_the_run_stay() {
     let before = every_verdict();
     let mut image = before.clone();
-    let answer = pass(&sample(), &mut image, 2, 5, &mut [0; 28 * 3], 0, 0);
+    let answer = pass(&sample(), &mut image, 2, 5, &mut [0; 3 * ENTRY], 0, 0);
     assert_eq!(answer.tally, tally([0, 1, 2, 0, 0, 0]));
     assert_eq!(image[..20], before[..20]);
     assert_eq!(image[20..50], record(0xA5, 27).repeat(3));
@@ -137,23 +155,23 @@ fn a_refused_list_is_left_as_it_was() {
 fn a_refused_image_and_its_journal_are_left_as_they_were() {
     // Each entry in use has the stamp EEEEEEEE.
     let stays = |code: Code, length: usize, end: usize, room: usize, used: usize, stamp: u32, number: usize| {
-        let (mut image, mut journal) = (every_verdict(), vec![0xEE; 588]);
+        let (mut image, mut journal) = (every_verdict(), vec![0xEE; 630]);
         let answer = pass(&code, &mut image[..length], 0, end, &mut journal[..room], used, stamp);
         assert_eq!((answer.number, answer.used, answer.tally), (number, 0, Tally::default()));
-        assert_eq!((image, journal), (every_verdict(), vec![0xEE; 588]));
+        assert_eq!((image, journal), (every_verdict(), vec![0xEE; 630]));
     };
     for number in 1..=6 {
-        stays(refused_by(number), 210, 21, 560, 0, 0, number);
+        stays(refused_by(number), 210, 21, 600, 0, 0, number);
     }
-    stays(sample(), 209, 20, 560, 0, 0, 12);
-    stays(sample(), 210, 22, 560, 0, 0, 14);
-    stays(sample(), 210, 21, 559, 0, 0, 13);
-    stays(sample(), 210, 21, 587, 1, 0xEEEE_EEEE, 13);
-    stays(sample(), 210, 21, 588, 1, 0xEEEE_EEED, 16);
-    stays(sample(), 210, 0, 588, 21, 0, 16);
-    stays(sample(), 210, 21, 588, 22, u32::MAX, 17);
-    stays(sample(), 210, 0, 588, usize::MAX, u32::MAX, 17);
-    stays(sample(), 210, 0, 588, 1 << 32, u32::MAX, 17);
+    stays(sample(), 209, 20, 600, 0, 0, 12);
+    stays(sample(), 210, 22, 600, 0, 0, 14);
+    stays(sample(), 210, 21, 599, 0, 0, 13);
+    stays(sample(), 210, 21, 629, 1, 0xEEEE_EEEE, 13);
+    stays(sample(), 210, 21, 630, 1, 0xEEEE_EEED, 16);
+    stays(sample(), 210, 0, 630, 21, 0, 16);
+    stays(sample(), 210, 21, 630, 22, u32::MAX, 17);
+    stays(sample(), 210, 0, 630, usize::MAX, u32::MAX, 17);
+    stays(sample(), 210, 0, 630, 1 << 32, u32::MAX, 17);
 }
 
 #[test]

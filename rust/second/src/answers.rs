@@ -51,6 +51,8 @@ pub struct Reading {
     pub place: usize,
     pub data: u64,
     pub check: u16,
+    /// Of the word as read.
+    pub syndrome: u16,
 }
 
 #[derive(Clone, Copy, PartialEq, Eq, Debug, Default)]

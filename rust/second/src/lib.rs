@@ -2,7 +2,8 @@
 //! from the documents alone.
 //!
 //! It goes by brute force over words of switches. A word is clean when writing its data gives its check bits; reading,
-//! explanations and cards flip places and ask that again. No syndrome is formed, and nothing is shared with the desk.
+//! explanations and cards flip places and ask that again. The syndrome is handed out, and its ones are counted where no
+//! flip helps; nothing is looked up by it, no columns are mixed, and nothing is shared with the desk.
 //!
 //! The questions are [`wanted`], [`judge`], [`row_balance`], [`write`], [`read`], [`explain`], [`card_check`], [`pass`],
 //! [`sheet`], [`make`], [`byte_write`], [`byte_read`] and the program [`mend`]. [`Desk`] gathers them, [`Cases`] makes

@@ -6,7 +6,7 @@ use crate::word::{number, Accepted, NO_PLACE};
 
 /// Bytes of a record, of an entry of the journal, and of the longest image.
 pub const RECORD: usize = 10;
-pub const ENTRY: usize = 28;
+pub const ENTRY: usize = 30;
 pub const IMAGE: usize = 65_530;
 
 /// What a pass is told: its run, from the record `start` up to `end`, which is not counted; how many entries of the journal
@@ -19,36 +19,42 @@ pub struct Pass {
     pub stamp: u32,
 }
 
-/// One record of the run: its number from the image's start, what it reads as, its bytes before and after.
+/// One record of the run: its number from the image's start, what it reads as, its syndrome (0 where it is stray), its
+/// bytes before and after.
 struct Seen {
     record: usize,
     verdict: usize,
     place: usize,
+    syndrome: u64,
     before: Vec<u8>,
     after: Vec<u8>,
 }
 
 impl Seen {
     fn entry(&self, stamp: u32) -> Vec<u8> {
-        let stamp = switches(stamp.into(), 32).chunks(8).map(|byte| number(byte) as u8).collect::<Vec<u8>>();
-        let head = [(self.record % 256) as u8, (self.record / 256) as u8, self.verdict as u8, self.place as u8];
-        [&stamp[..], &head, &self.before, &self.after].concat()
+        let (stamp, record) = (in_bytes(&switches(stamp.into(), 32)), in_bytes(&switches(self.record as u64, 16)));
+        let (reading, syndrome) = ([self.verdict as u8, self.place as u8], in_bytes(&switches(self.syndrome, 16)));
+        [&stamp, &record, &reading[..], &syndrome, &self.before, &self.after].concat()
     }
+}
+
+/// Switches, the lowest first, as bytes.
+fn in_bytes(row: &[bool]) -> Vec<u8> {
+    row.chunks(8).map(|byte| number(byte) as u8).collect()
 }
 
 /// Reads one record of the image.
 fn see(code: &Accepted, record: usize, bytes: &[u8]) -> Seen {
     let mut all: Vec<bool> = bytes.iter().flat_map(|&byte| switches(byte.into(), 8)).collect();
-    let (verdict, place) = match code.word(&all[..64], &all[64..]) {
-        Ok(word) => code.verdict(&word),
-        Err(_) => (5, NO_PLACE),
+    let ((verdict, place), syndrome) = match code.word(&all[..64], &all[64..]) {
+        Ok(word) => (code.verdict(&word), number(&code.syndrome(&word))),
+        Err(_) => ((5, NO_PLACE), 0),
     };
     if place != NO_PLACE {
         let bit = if place < code.k { place } else { 64 + place - code.k };
         all[bit] = !all[bit];
     }
-    let after = all.chunks(8).map(|byte| number(byte) as u8).collect();
-    Seen { record, verdict, place, before: bytes.to_vec(), after }
+    Seen { record, verdict, place, syndrome, before: bytes.to_vec(), after: in_bytes(&all) }
 }
 
 /// The tally after one more word: a full count stays, and so does all when there is no such verdict.

@@ -22,8 +22,8 @@ pub fn mend(input: &[u8]) -> String {
     }
     let mut text = String::new();
     for entry in journal.chunks(ENTRY).take(passed.used) {
-        let record = usize::from(entry[4]) + 256 * usize::from(entry[5]);
-        text += &format!("{} {} {}\n", record, entry[6], entry[7]);
+        let two_bytes = |at: usize| usize::from(entry[at]) + 256 * usize::from(entry[at + 1]);
+        text += &format!("{} {} {} {}\n", two_bytes(4), entry[6], entry[7], two_bytes(8));
     }
     let names = ["clean", "data", "check", "even", "odd", "stray"];
     let counts: Vec<String> =

@@ -1,7 +1,7 @@
 //! Words as n switches, and their writing and reading by flips.
 
 use crate::answers::{Reading, Refusal, Written};
-use crate::code::{accepted_columns, switches, Code};
+use crate::code::{accepted_columns, ones, switches, Code};
 
 /// The place that is handed back where none is meant.
 pub const NO_PLACE: usize = 255;
@@ -57,8 +57,12 @@ impl Accepted {
             tried[place] = !tried[place];
         }
         // Even and odd are the table's own words: how many check bits are not the written ones.
-        let differing = (0..self.r).filter(|&j| self.written_bit(word, j) != word[self.k + j]).count();
-        (if differing % 2 == 0 { 3 } else { 4 }, NO_PLACE)
+        (if ones(&self.syndrome(word)) % 2 == 0 { 3 } else { 4 }, NO_PLACE)
+    }
+
+    /// The syndrome in the document's words: the written check bits of the data as read, exclusive-ored with those as read.
+    pub fn syndrome(&self, word: &[bool]) -> Vec<bool> {
+        (0..self.r).map(|j| self.written_bit(word, j) != word[self.k + j]).collect()
     }
 
     /// The word of 64 data switches and 16 check switches, unless one of them is stray.
@@ -106,9 +110,10 @@ fn try_read(code: &Code, data: u64, check: u16) -> Result<Reading, Refusal> {
     let code = Accepted::new(code)?;
     let mut word = word_of(&code, data, check)?;
     let (verdict, place) = code.verdict(&word);
+    let syndrome = number(&code.syndrome(&word)) as u16;
     if place != NO_PLACE {
         word[place] = !word[place];
     }
     let (data, check) = (number(&word[..code.k]), number(&word[code.k..]) as u16);
-    Ok(Reading { verdict, place, data, check, ..Reading::default() })
+    Ok(Reading { verdict, place, data, check, syndrome, ..Reading::default() })
 }

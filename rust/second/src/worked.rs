@@ -113,10 +113,9 @@ impl Worked {
                 let a = desk.write(code, data(d));
                 said(&[a.number, a.told]) + &said(&[a.check])
             }
-            ["syndrome", d, c] => said(&[desk.write(code, data(d)).check ^ number::<u16>(c)]),
             ["read", d, c] => {
                 let a = desk.read(code, data(d), number(c));
-                said(&[a.number, a.told, a.verdict, a.place]) + &hex(&[a.data], 1) + &said(&[a.check])
+                said(&[a.number, a.told, a.verdict, a.place]) + &hex(&[a.data], 1) + &said(&[a.check, a.syndrome])
             }
             ["explain", d, c, limit, room] => {
                 let mut list = [FILL; 80];

@@ -42,11 +42,11 @@ fn reading_is_the_table() {
         let expected = match columns(&code).iter().position(|&column| column == syndrome) {
             Some(place) => {
                 let (data, check) = flipped(&code, (data, check), place);
-                reading(if place < code.k { 1 } else { 2 }, place, data, check)
+                reading(if place < code.k { 1 } else { 2 }, place, data, check, syndrome)
             }
-            None if syndrome == 0 => reading(0, NONE, data, check),
-            None if syndrome.count_ones() % 2 == 0 => reading(3, NONE, data, check),
-            None => reading(4, NONE, data, check),
+            None if syndrome == 0 => reading(0, NONE, data, check, 0),
+            None if syndrome.count_ones() % 2 == 0 => reading(3, NONE, data, check, syndrome),
+            None => reading(4, NONE, data, check, syndrome),
         };
         assert_eq!(read(&code, data, check), expected);
     }
@@ -103,14 +103,15 @@ fn one_flip_is_mended_and_two_are_even() {
     for _ in 0..100 {
         let code = cases.sound_code();
         let data = if code.k == 64 { u64::MAX / 3 } else { (1 << code.k) / 3 };
-        let clean = (data, write(&code, data).check);
-        assert_eq!(read(&code, clean.0, clean.1), reading(0, NONE, clean.0, clean.1));
+        let (clean, columns) = ((data, write(&code, data).check), columns(&code));
+        assert_eq!(read(&code, clean.0, clean.1), reading(0, NONE, clean.0, clean.1, 0));
         for p in 0..code.k + code.r {
             let one = flipped(&code, clean, p);
-            assert_eq!(read(&code, one.0, one.1), reading(if p < code.k { 1 } else { 2 }, p, clean.0, clean.1));
+            let verdict = if p < code.k { 1 } else { 2 };
+            assert_eq!(read(&code, one.0, one.1), reading(verdict, p, clean.0, clean.1, columns[p]));
             for q in 0..p {
                 let two = flipped(&code, one, q);
-                assert_eq!(read(&code, two.0, two.1), reading(3, NONE, two.0, two.1));
+                assert_eq!(read(&code, two.0, two.1), reading(3, NONE, two.0, two.1, columns[p] ^ columns[q]));
             }
         }
     }

@@ -69,6 +69,15 @@ enum Fault {
     NewEntriesAreHandedBack,
     RefusedPassHasCount,
     LastUsedEntryIsStamped,
+    // Syndromes.
+    SyndromeBeforePlace,
+    MendedSyndromeIsEntered,
+    StraySyndromeIsEntered,
+    SyndromeHighByteFirst,
+    SyndromeIsCutToAByte,
+    SyndromeOnRefusal,
+    WrittenBitsAreTold,
+    NoSyndromeIsTold,
     // Sheets.
     EndsAreOutside,
     CeilingIsAFloor,
@@ -99,6 +108,7 @@ enum Fault {
     StrayDataIsCut,
     ByteOnRefusal,
     // The program.
+    SyndromeIsNotPrinted,
     NoLastLineEnd,
     RefusedPrintsTally,
 }
@@ -159,18 +169,18 @@ impl Sloppy {
     /// A pass as this desk takes stamps and the count in use.
     fn pass_by_the_count(&self, code: &Code, image: &mut [u8], journal: &mut [u8], asked: &Pass) -> Passed {
         let Pass { used, stamp, .. } = *asked;
-        let (before, room) = ((image.to_vec(), journal.to_vec()), journal.len() / 28);
+        let (before, room) = ((image.to_vec(), journal.to_vec()), journal.len() / 30);
         let is_used = (1..=room).contains(&used);
-        let stamp_at = |entry: usize| before.1.get(28 * entry..28 * entry + 4).map_or(0, stamp_of);
+        let stamp_at = |entry: usize| before.1.get(30 * entry..30 * entry + 4).map_or(0, stamp_of);
         let (first, last) = (stamp_at(0), if is_used { stamp_at(used - 1) } else { 0 });
         let mut answer = pass(code, image, journal, asked);
-        let new = 28 * used.min(room)..28 * answer.used.max(used.min(room));
+        let new = 30 * used.min(room)..30 * answer.used.max(used.min(room));
         match (self.0, answer.number) {
-            (StampHighByteFirst, 0) => journal[new].chunks_mut(28).for_each(|entry| entry[..4].reverse()),
-            (StampIsNotWritten, 0) => journal[new].chunks_mut(28).for_each(|entry| entry[..4].fill(0)),
-            (WrittenOverAUsedEntry, 0) if is_used => journal.copy_within(new, 28 * (used - 1)),
+            (StampHighByteFirst, 0) => journal[new].chunks_mut(30).for_each(|entry| entry[..4].reverse()),
+            (StampIsNotWritten, 0) => journal[new].chunks_mut(30).for_each(|entry| entry[..4].fill(0)),
+            (WrittenOverAUsedEntry, 0) if is_used => journal.copy_within(new, 30 * (used - 1)),
             (LastUsedEntryIsStamped, 0) if is_used => {
-                journal[28 * (used - 1)..][..4].copy_from_slice(&stamp.to_le_bytes())
+                journal[30 * (used - 1)..][..4].copy_from_slice(&stamp.to_le_bytes())
             }
             (FirstStampIsCompared, 0 | 13) if is_used && stamp < first => return put_back(16, image, journal, before),
             (FirstStampIsCompared, 16) if stamp >= first => answer.number = 0,
@@ -200,6 +210,41 @@ impl Sloppy {
             _ => {}
         }
         answer
+    }
+}
+
+/// The check bits that writing gives, and the syndrome, of a word whose stray bits are not looked at.
+fn unjudged(code: &Code, data: u64, check: u16) -> (u16, u16) {
+    let written = write(code, (u128::from(data) & ((1 << code.k.min(64)) - 1)) as u64).check;
+    (written, written ^ check)
+}
+
+impl Sloppy {
+    /// The syndrome of one word as this desk tells it, on a refusal by 7 too.
+    fn told_syndrome(&self, code: &Code, data: u64, check: u16, answer: &Reading) -> u16 {
+        let (written, syndrome) = unjudged(code, data, check);
+        match (self.0, answer.number) {
+            (SyndromeOnRefusal, 7) => syndrome,
+            (WrittenBitsAreTold, 0) => written,
+            (SyndromeIsCutToAByte, 0) => syndrome & 255,
+            (NoSyndromeIsTold, 0) => 0,
+            _ => answer.syndrome,
+        }
+    }
+
+    /// What this desk enters behind an entry's verdict: from the place up to the bytes as read.
+    fn enter_syndrome(&self, code: &Code, entry: &mut [u8]) {
+        let data = u64::from_le_bytes(entry[10..18].try_into().unwrap());
+        let (written, syndrome) = unjudged(code, data, u16::from_le_bytes([entry[18], entry[19]]));
+        match (self.0, entry[6]) {
+            (SyndromeBeforePlace, _) => entry[7..10].rotate_left(1),
+            (MendedSyndromeIsEntered, 1 | 2) => entry[8..10].fill(0),
+            (StraySyndromeIsEntered, 5) => entry[8..10].copy_from_slice(&syndrome.to_le_bytes()),
+            (SyndromeHighByteFirst, _) => entry[8..10].reverse(),
+            (SyndromeIsCutToAByte, _) => entry[9] = 0,
+            (WrittenBitsAreTold, 1..=4) => entry[8..10].copy_from_slice(&written.to_le_bytes()),
+            _ => {}
+        }
     }
 }
 
@@ -255,6 +300,7 @@ impl Desk for Sloppy {
             (StrayCheckBitsPass, 7, _) => answer = read(code, data, check & ((1 << code.r.min(15)) - 1)),
             _ => {}
         }
+        answer.syndrome = self.told_syndrome(code, data, check, &answer);
         answer
     }
 
@@ -309,19 +355,23 @@ impl Desk for Sloppy {
         let bad_run = start > end || end > records;
         let mut answer = self.pass_by_the_count(code, image, journal, asked);
         let noted: usize = answer.tally[1..].iter().sum();
+        if ENTERED.contains(&self.0) {
+            let new = 30 * (answer.used - noted)..30 * answer.used;
+            journal[new].chunks_mut(30).for_each(|entry| self.enter_syndrome(code, entry));
+        }
         match (self.0, answer.number) {
             (RunBeforeLength, 12) if bad_run => answer.number = 14,
-            (JournalBeforeRun, 14) if start < records && journal.len() < 28 => answer.number = 13,
+            (JournalBeforeRun, 14) if start < records && journal.len() < 30 => answer.number = 13,
             (LastRecordIsBeyond, 0) if end == records => answer = Passed { number: 14, ..Passed::default() },
             (WholeImageIsMended, 0) => {
                 let whole = Pass { start: 0, end: records, ..Pass::default() };
-                pass(code, image, &mut vec![0; 28 * records], &whole);
+                pass(code, image, &mut vec![0; 30 * records], &whole);
             }
             (NumbersFromTheRun, 0) if noted > 0 => {
-                journal[28 * used + 4] = journal[28 * used + 4].wrapping_sub(start as u8)
+                journal[30 * used + 4] = journal[30 * used + 4].wrapping_sub(start as u8)
             }
             (RefusedPassIsNoted, 13) => journal.fill(0),
-            (JournalTailIsCleared, 0) => journal[28 * answer.used..].fill(0),
+            (JournalTailIsCleared, 0) => journal[30 * answer.used..].fill(0),
             (NothingIsMended, 0) => image.copy_from_slice(&before),
             (StrayIsNotCounted, 0) => answer.tally[5] = 0,
             (RefusedPassHasTally, 13) => answer.tally[3] = answer.told,
@@ -408,6 +458,13 @@ impl Desk for Sloppy {
     fn mend(&self, input: &[u8]) -> String {
         let text = mend(input);
         match self.0 {
+            SyndromeIsNotPrinted => {
+                let without = |line: &str| match line.split(' ').collect::<Vec<&str>>()[..] {
+                    [record, verdict, place, _] => format!("{} {} {}\n", record, verdict, place),
+                    _ => line.to_string() + "\n",
+                };
+                text.lines().map(without).collect()
+            }
             NoLastLineEnd => text.trim_end().to_string(),
             RefusedPrintsTally if text.starts_with("refused") => text + &mend(&[]),
             _ => text,
@@ -463,7 +520,7 @@ fn every_fault_of_a_pass_is_noticed() {
     noticed(&[RunBeforeLength, JournalBeforeRun, LastRecordIsBeyond], "pass", amounts);
     noticed(&[RefusedPassIsNoted, RefusedPassHasTally, JournalTailIsCleared], "pass", amounts);
     noticed(&[WholeImageIsMended, NumbersFromTheRun, NothingIsMended, StrayIsNotCounted], "pass", amounts);
-    noticed(&[NoLastLineEnd, RefusedPrintsTally], "mend", amounts);
+    noticed(&[SyndromeIsNotPrinted, NoLastLineEnd, RefusedPrintsTally], "mend", amounts);
 }
 
 /// The faults of a stamp and of the count in use.
@@ -499,6 +556,24 @@ fn passes_in_turn_notice_what_a_true_count_shows() {
     noticed(&faults, "passes", Amounts { turns: 500, ..NO_CASES });
 }
 
+/// The faults of a syndrome that reading tells, and of one that is entered.
+const TOLD: [Fault; 4] = [SyndromeOnRefusal, WrittenBitsAreTold, SyndromeIsCutToAByte, NoSyndromeIsTold];
+const ENTERED: [Fault; 6] = [
+    SyndromeBeforePlace,
+    MendedSyndromeIsEntered,
+    StraySyndromeIsEntered,
+    SyndromeHighByteFirst,
+    SyndromeIsCutToAByte,
+    WrittenBitsAreTold,
+];
+
+#[test]
+fn every_fault_of_a_syndrome_is_noticed() {
+    noticed(&TOLD, "read", Amounts { words: 1_000, ..NO_CASES });
+    noticed(&ENTERED, "pass", Amounts { images: 500, ..NO_CASES });
+    noticed(&ENTERED, "passes", Amounts { turns: 500, ..NO_CASES });
+}
+
 #[test]
 fn every_fault_of_a_sheet_is_noticed() {
     noticed(&[EndsAreOutside, CeilingIsAFloor, RoundedTwice, HoursAreNotJudged], "sheet", NO_CASES);
@@ -526,7 +601,7 @@ fn the_worked_cases_notice_every_easy_way_to_go_wrong_and_every_byte() {
     let bytes = [RefusedListIsWritten, ListTailIsCleared, RefusedPassIsNoted, NothingIsMended];
     let amended = [CardsRunStraightOn, DataCardIsJoined, CheckCardsAreLeftOut, CheckCardsFromZero];
     let made = [FiveBeforeThree, LargerNumberFirst, ColumnLeftOut, LeftoverIsMade, RoomForOneLess, RoomForOneMore];
-    for fault in ways.into_iter().chain(bytes).chain(amended).chain(made).chain(STAMPS) {
+    for fault in ways.into_iter().chain(bytes).chain(amended).chain(made).chain(STAMPS).chain(TOLD).chain(ENTERED) {
         assert!(!worked(&Sloppy(fault)).is_empty(), "{:?}", fault);
     }
 }

@@ -11,7 +11,8 @@ fn refused_everywhere(code: Code, number: usize, told: usize) {
     assert_eq!(row_balance(&code), Balanced { number, told, rows: [0; 16] });
     for data in [0, 1, u64::MAX] {
         assert_eq!(write(&code, data), Written { number, told, check: 0 });
-        assert_eq!(read(&code, data, 0xFFFF), Reading { number, told, verdict: 0, place: 0, data: 0, check: 0 });
+        let nothing = Reading { number, told, verdict: 0, place: 0, data: 0, check: 0, syndrome: 0 };
+        assert_eq!(read(&code, data, 0xFFFF), nothing);
         for limit in [0, 2, 3, usize::MAX] {
             let mut list = [0xEE; 80];
             assert_eq!(explain(&code, data, 0xFFFF, limit, &mut list), list_refused(number, told));
@@ -23,10 +24,10 @@ fn refused_everywhere(code: Code, number: usize, told: usize) {
     }
     for (bytes, start, end) in [(20, 0, 2), (20, 2, 1), (20, 0, 3), (19, 0, 1), (65_540, 0, 1)] {
         for used in [0, 1, 2, usize::MAX] {
-            let (mut image, mut journal) = (vec![0xA6; bytes], [0xEE; 55]);
+            let (mut image, mut journal) = (vec![0xA6; bytes], [0xEE; 59]);
             let asked = Pass { used, ..over(start, end) };
             assert_eq!(pass(&code, &mut image, &mut journal, &asked), pass_refused(number, told));
-            assert!(image == vec![0xA6; bytes] && journal == [0xEE; 55]);
+            assert!(image == vec![0xA6; bytes] && journal == [0xEE; 59]);
         }
     }
 }
@@ -169,7 +170,7 @@ fn unchanged(bytes: usize, bad: usize, asked: Pass, journal: usize) -> Passed {
         image[10 * at..10 * at + 10].copy_from_slice(&record(0xA6, 27));
     }
     let before = image.clone();
-    let filled: Vec<u8> = (0..journal).map(|at| (1 + at / 28) as u8).collect();
+    let filled: Vec<u8> = (0..journal).map(|at| (1 + at / 30) as u8).collect();
     let mut noted = filled.clone();
     let answer = pass(&sample_code(), &mut image, &mut noted, &asked);
     assert!(image == before && noted == filled);
@@ -197,11 +198,11 @@ fn number_14_the_run() {
     let backwards = [(1, 0), (3, 2), (usize::MAX, 3), (usize::MAX, 0)];
     for run in beyond.into_iter().chain(backwards) {
         assert_eq!(refused_pass(30, 3, run, 0), pass_refused(14, 0), "14 before 13");
-        assert_eq!(refused_pass(30, 3, run, 84), pass_refused(14, 0));
+        assert_eq!(refused_pass(30, 3, run, 90), pass_refused(14, 0));
         let (start, end) = run;
         for (used, stamp) in [(4, 9), (usize::MAX, 0), (1, 0)] {
             let asked = Pass { start, end, used, stamp };
-            assert_eq!(unchanged(30, 3, asked, 84), pass_refused(14, 0), "14 before 17 and 16");
+            assert_eq!(unchanged(30, 3, asked, 90), pass_refused(14, 0), "14 before 17 and 16");
         }
     }
     assert_eq!(refused_pass(0, 0, (0, 1), 0), pass_refused(14, 0));
@@ -209,10 +210,10 @@ fn number_14_the_run() {
 
 #[test]
 fn number_13_the_journals_room() {
-    for journal in 0..84 {
+    for journal in 0..90 {
         assert_eq!(refused_pass(50, 3, (0, 5), journal), pass_refused(13, 3));
     }
-    assert_eq!(refused_pass(50, 3, (2, 5), 27), pass_refused(13, 1));
+    assert_eq!(refused_pass(50, 3, (2, 5), 29), pass_refused(13, 1));
     assert_eq!(refused_pass(50, 3, (3, 5), 0), pass_done(0, [2, 0, 0, 0, 0, 0]));
 }
 
@@ -220,18 +221,18 @@ fn number_13_the_journals_room() {
 fn number_13_counts_the_room_that_is_left() {
     for used in 1..=4 {
         let asked = Pass { used, stamp: u32::MAX, ..over(0, 5) };
-        for journal in 28 * used..28 * (used + 3) {
+        for journal in 30 * used..30 * (used + 3) {
             assert_eq!(unchanged(50, 3, asked, journal), pass_refused(13, 3));
         }
         let full = Pass { start: 3, ..asked };
-        assert_eq!(unchanged(50, 3, full, 28 * used), pass_done(used, [2, 0, 0, 0, 0, 0]));
+        assert_eq!(unchanged(50, 3, full, 30 * used), pass_done(used, [2, 0, 0, 0, 0, 0]));
     }
 }
 
 #[test]
 fn number_17_the_count_in_use_after_14_and_before_16_and_13() {
-    for journal in [0, 1, 27, 28, 55, 56, 83, 84] {
-        let room = journal / 28;
+    for journal in [0, 1, 29, 30, 59, 60, 89, 90] {
+        let room = journal / 30;
         for used in [room + 1, room + 2, 256 + room, 1 << 32, (1 << 32) + room, usize::MAX] {
             for (start, end) in [(0, 0), (3, 5), (0, 5)] {
                 for stamp in [0, u32::MAX] {
@@ -253,22 +254,22 @@ fn number_16_the_stamp_of_the_last_used_entry_before_13() {
         for (start, end) in [(0, 0), (3, 5), (0, 5)] {
             for stamp in [0, 1, last - 1, last & 0xFF, 0x0101_0100] {
                 let asked = Pass { start, end, used, stamp };
-                assert_eq!(unchanged(50, 3, asked, 28 * 3), pass_refused(16, 0));
-                assert_eq!(unchanged(49, 3, asked, 28 * 3), pass_refused(12, 0), "12 before 16");
+                assert_eq!(unchanged(50, 3, asked, 30 * 3), pass_refused(16, 0));
+                assert_eq!(unchanged(49, 3, asked, 30 * 3), pass_refused(12, 0), "12 before 16");
             }
         }
         for stamp in [last, last + 1, u32::MAX] {
             let asked = Pass { start: 3, end: 5, used, stamp };
-            assert_eq!(unchanged(50, 3, asked, 28 * 3), pass_done(used, [2, 0, 0, 0, 0, 0]));
+            assert_eq!(unchanged(50, 3, asked, 30 * 3), pass_done(used, [2, 0, 0, 0, 0, 0]));
         }
     }
     // With none in use any stamp will do, whatever the bytes are.
-    assert_eq!(unchanged(50, 3, over(3, 5), 28 * 3), pass_done(0, [2, 0, 0, 0, 0, 0]));
+    assert_eq!(unchanged(50, 3, over(3, 5), 30 * 3), pass_done(0, [2, 0, 0, 0, 0, 0]));
 }
 
 #[test]
 fn number_16_looks_at_the_last_used_entry_alone() {
-    let high_then_low = [vec![0xFF; 28], vec![0; 4], vec![0xFF; 24 + 28]].concat();
+    let high_then_low = [vec![0xFF; 30], vec![0; 4], vec![0xFF; 26 + 30]].concat();
     let mut journal = high_then_low.clone();
     let asked = Pass { used: 2, stamp: 0, ..over(0, 0) };
     assert_eq!(pass(&sample_code(), &mut [], &mut journal, &asked), pass_done(2, [0; 6]));

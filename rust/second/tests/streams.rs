@@ -164,32 +164,32 @@ fn cards_are_proof_and_weak_for_every_b() {
 
 #[test]
 fn images_have_every_verdict_run_and_journal() {
-    let mut cases = Cases::new(8);
+    let mut cases = Cases::new(11);
     let (mut tally, mut seen) = ([0; 6], HashSet::new());
     for _ in 0..2_000 {
         let case = cases.image();
         let (mut image, mut journal) = (case.image.clone(), case.journal.clone());
         let Pass { start, end, used, stamp } = case.asked;
         let answer = pass(&case.code, &mut image, &mut journal, &case.asked);
-        let (records, room) = (case.image.len() / 10, case.journal.len() / 28);
+        let (records, room) = (case.image.len() / 10, case.journal.len() / 30);
         let noted: usize = answer.tally[1..].iter().sum();
-        let last = if (1..=room).contains(&used) { Some(stamp_of(&case.journal[28 * used - 28..])) } else { None };
+        let last = if (1..=room).contains(&used) { Some(stamp_of(&case.journal[30 * used - 30..])) } else { None };
         if answer.number == 0 {
             assert_eq!(answer.used, used + noted);
             tally.iter_mut().zip(answer.tally).for_each(|(all, count)| *all += count);
-            assert!(journal[..28 * used] == case.journal[..28 * used]);
-            assert!(journal[28 * answer.used..] == case.journal[28 * answer.used..]);
+            assert!(journal[..30 * used] == case.journal[..30 * used]);
+            assert!(journal[30 * answer.used..] == case.journal[30 * answer.used..]);
             let changed = (0..image.len()).filter(|&at| image[at] != case.image[at]);
             assert!(changed.into_iter().all(|at| (start..end).contains(&(at / 10))));
             seen.insert(("inner run", (start > 0 && end < records && noted > 0).into()));
             seen.insert(("equal ends", (start == end).into()));
             seen.insert(("over a byte", (end > 256 && noted > 0).into()));
             seen.insert(("longest", (case.image.len() == 65_530).into()));
-            seen.insert(("room", (case.journal.len() - 28 * answer.used).min(29)));
+            seen.insert(("room", (case.journal.len() - 30 * answer.used).min(31)));
             seen.insert(("used", used.min(3)));
             seen.insert(("equal stamp", (last == Some(stamp) && noted > 0).into()));
             seen.insert(("highest stamp", (stamp == u32::MAX && used > 0 && noted > 0).into()));
-            let first = case.journal.get(..28).map(stamp_of);
+            let first = case.journal.get(..30).map(stamp_of);
             seen.insert(("below the first", (used > 1 && first > Some(stamp)).into()));
             seen.insert(("below what is not in use", (used == 0 && first > Some(stamp)).into()));
             seen.insert(("full and all clean", (used == room && used > 0 && noted == 0 && start < end).into()));
@@ -200,7 +200,7 @@ fn images_have_every_verdict_run_and_journal() {
             seen.insert(("far beyond", (answer.number == 14 && end == usize::MAX).into()));
             seen.insert(("odd length", (answer.number == 12 && case.image.len() % 10 != 0).into()));
             seen.insert(("too long", (answer.number == 12 && case.image.len() == 65_540).into()));
-            let needed = 28 * (used.min(room) + answer.told);
+            let needed = 30 * (used.min(room) + answer.told);
             seen.insert(("short by", if answer.number == 13 { needed - case.journal.len() } else { 0 }));
             seen.insert(("short by what is in use", (answer.number == 13 && answer.told <= room).into()));
             seen.insert(("one too many in use", (answer.number == 17 && used == room + 1).into()));
@@ -220,9 +220,9 @@ fn images_have_every_verdict_run_and_journal() {
     for shape in all {
         assert!(seen.contains(&(shape, 1)), "{}", shape);
     }
-    assert!([0, 1, 27, 29].iter().all(|&over| seen.contains(&("room", over))));
+    assert!([0, 1, 29, 31].iter().all(|&over| seen.contains(&("room", over))));
     assert!((0..=3).all(|used| seen.contains(&("used", used))));
-    assert!(seen.contains(&("short by", 28)));
+    assert!(seen.contains(&("short by", 30)));
 }
 
 #[test]
@@ -236,16 +236,16 @@ fn passes_in_turn_go_on_in_one_journal() {
         for &(code, start, end, stamp) in &case.turns {
             let before = journal.clone();
             let answer = pass(&code, &mut image, &mut journal, &Pass { start, end, used, stamp });
-            assert!(journal[..28 * used] == before[..28 * used]);
+            assert!(journal[..30 * used] == before[..30 * used]);
             if answer.number == 0 {
                 stamps.resize(answer.used, stamp);
                 used = answer.used;
             }
             numbers.push(answer.number);
         }
-        assert!(journal.chunks(28).zip(&stamps).all(|(entry, &stamp)| stamp_of(entry) == stamp));
+        assert!(journal.chunks(30).zip(&stamps).all(|(entry, &stamp)| stamp_of(entry) == stamp));
         assert!(stamps.windows(2).all(|pair| pair[0] <= pair[1]), "stamps never fall");
-        assert!(journal[28 * used..] == case.journal[28 * used..]);
+        assert!(journal[30 * used..] == case.journal[30 * used..]);
         let first = numbers.iter().position(|&number| number == 0);
         let last = numbers.iter().rposition(|&number| number == 0);
         done += numbers.iter().filter(|&&number| number == 0).count();

@@ -11,6 +11,7 @@ struct Reading {
     place: u8,
     data: u64,
     check: u16,
+    syndrome: u16,
 }
 
 fn judge(code: &Code) -> Result<(), (usize, usize)> {
@@ -73,9 +74,9 @@ fn is_stray(code: &Code, data: u64, check: u16) -> bool {
 fn read(code: &Code, record: &[u8]) -> Reading {
     let data = u64::from_le_bytes(record[..8].try_into().unwrap());
     let check = u16::from_le_bytes(record[8..].try_into().unwrap());
-    let as_read = |verdict: u8| Reading { verdict, place: NO_PLACE, data, check };
+    let as_read = |verdict: u8, syndrome: u16| Reading { verdict, place: NO_PLACE, data, check, syndrome };
     if is_stray(code, data, check) {
-        return as_read(5);
+        return as_read(5, 0);
     }
     let mut syndrome = check;
     for (place, &column) in code.columns[..code.k].iter().enumerate() {
@@ -84,18 +85,18 @@ fn read(code: &Code, record: &[u8]) -> Reading {
         }
     }
     if syndrome == 0 {
-        return as_read(0);
+        return as_read(0, 0);
     }
     for (place, &column) in code.columns[..code.k].iter().enumerate() {
         if column == syndrome {
-            return Reading { verdict: 1, place: place as u8, data: data ^ 1 << place, check };
+            return Reading { verdict: 1, place: place as u8, data: data ^ 1 << place, check, syndrome };
         }
     }
     if syndrome.count_ones() == 1 {
         let place = code.k + syndrome.trailing_zeros() as usize;
-        return Reading { verdict: 2, place: place as u8, data, check: check ^ syndrome };
+        return Reading { verdict: 2, place: place as u8, data, check: check ^ syndrome, syndrome };
     }
-    as_read(if syndrome.count_ones() % 2 == 0 { 3 } else { 4 })
+    as_read(if syndrome.count_ones() % 2 == 0 { 3 } else { 4 }, syndrome)
 }
 
 fn count(tally: &mut Tally, verdict: u8) {
@@ -115,10 +116,11 @@ fn mend(record: &mut [u8], number: usize, reading: &Reading, stamp: u32, entry: 
     entry[4..6].copy_from_slice(&(number as u16).to_le_bytes());
     entry[6] = reading.verdict;
     entry[7] = reading.place;
-    entry[8..18].copy_from_slice(record);
+    entry[8..10].copy_from_slice(&reading.syndrome.to_le_bytes());
+    entry[10..20].copy_from_slice(record);
     record[..8].copy_from_slice(&reading.data.to_le_bytes());
     record[8..].copy_from_slice(&reading.check.to_le_bytes());
-    entry[18..].copy_from_slice(record);
+    entry[20..].copy_from_slice(record);
 }
 
 /// The answer of a pass that is done with so many entries in use and this tally, or refused.

@@ -32,7 +32,7 @@ part-put-head-end c = search needs
 cast-put-head : tie.Need-cast-put-head
 cast-put-head c =
     let f = c .before .before in
-    record { fits = omega (arith, ap (λ x. x .verdict) (f .finding-of .ensures), verdict-top (f .before .before .before .args .verdict)) }
+    record { fits = omega (arith, ap (λ x. x .verdict) (f .finding-of .ensures), verdict-top (f .before .before .before .args .sight .verdict)) }
 
 cast-put-head-2 : tie.Need-cast-put-head-2
 cast-put-head-2 c =
@@ -40,7 +40,7 @@ cast-put-head-2 c =
     let s = f .before .before .before in
     let held = s .pre .1 .1 .0 in
     let k : s .args .k ≤ 128 = omega (arith, held .data-held, held .most) in
-    let fit = place-fits (s .args .k) (s .args .verdict) k (s .pre .1 .1 .1) in
+    let fit = place-fits (s .args .k) (s .args .sight .verdict) k (s .pre .1 .1 .1) in
     record { fits = omega (arith, ap (λ x. x .place) (f .finding-of .ensures), fit) }
 
 put-head-requires : tie.Need-put-head-requires
@@ -88,11 +88,11 @@ returns c =
     let f = h .before .before .before .before in
     let s = f .before .before .before in
     let a = s .args in
-    let head = h .put-head .ensures ∙ ap (λ x. headBytes (a .stamp) (a .n) (x .verdict) (x .place)) (f .finding-of .ensures) in
+    let head = h .put-head .ensures ∙ ap (λ x. headBytes (a .stamp) (a .n) (x .verdict) (x .place) (a .sight .syndrome)) (f .finding-of .ensures) in
     let left = q .put-bytes2 .ensures ∙ m .mend .ensures in (
       m .mend .ensures,
       three-parts (a .entry .now) (h .put-head .last .0) (b .put-bytes .last .0) (q .put-bytes2 .last .0) headSize (length (a .rec .now))
-          (ap length head ∙ length-head _ _ _ _) (ap length (b .put-bytes .ensures)) (search needs) (search needs)
+          (ap length head ∙ length-head _ _ _ _ _) (ap length (b .put-bytes .ensures)) (search needs) (search needs)
           ∙ (λ i. head i ++ (b .put-bytes .ensures i ++ left i)),
     )
 

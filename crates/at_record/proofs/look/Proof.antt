@@ -6,8 +6,8 @@ use lib.ListN.{length, take, drop}
 use lib.Seq.{length-take-le}
 use borrow.Author.Needs.{needs}
 use Rattle.record.specs.Bytes.{numberOf}
-use Rattle.word.specs.Verdicts.{readIn}
-use Rattle.at_record.specs.Outcome.{seen}
+use Rattle.word.specs.Verdicts.{sightOf}
+use Rattle.at_record.specs.Outcome.{seen, syndromeOf}
 use Rattle.at_record.proofs.look.Statement.{statement}
 use Rattle.at_record.proofs.look.Tie as tie
 
@@ -55,7 +55,7 @@ read-in-requires : tie.Need-read-in-requires
 read-in-requires c κs = search needs
 
 returns : tie.Need-returns
-unfolding seen
+unfolding seen syndromeOf
 returns c =
     let m = c .before in
     let h = m .before .before in
@@ -65,7 +65,7 @@ returns c =
     let checks = m .check-number .ensures ∙ ap (λ (n : ℕ). numberOf (take n (drop (a .d) (a .rec .now)))) two in
     let low = l .number .ensures in
     let high = h .number2 .ensures in
-    c .read-in .ensures ∙ (λ i. readIn (a .rows) (a .columns .now) (a .k) (record { low = low i; high = high i; check = checks i }))
+    c .read-in .ensures ∙ (λ i. sightOf (a .rows) (a .columns .now) (a .k) (record { low = low i; high = high i; check = checks i }))
 
 pub look-spec : {M : Type 1} → statement M
 look-spec =

@@ -53,7 +53,8 @@ found c =
     let at = h .loop .i * size h in
     let n : at + size h - at ≡ size h = omega arith in
     ap (λ x. x .verdict) (c .finding-of .ensures)
-    ∙ ap (λ v. findingOf v .verdict) (c .before .look .ensures ∙ ap (λ m. seen (with h) (take m (drop at (start h .args .run .now)))) n)
+    ∙ ap (λ v. findingOf v .verdict) (ap (λ x. x .verdict) (c .before .look .ensures)
+    ∙ ap (λ m. seen (with h) (take m (drop at (start h .args .run .now)))) n)
 
 add-size : tie.Need-add-size Inv-loop μ-loop
 add-size c = search needs

@@ -16,7 +16,7 @@ use Rattle.runs.proofs.Tallies.{tally-step}
 use Rattle.runs.proofs.Journal.{needed-clean, entries-clean}
 use Rattle.word.specs.Places.{NamesPlace}
 use Rattle.word.specs.Verdicts.{findingOf}
-use Rattle.at_record.specs.Outcome.{Reader, reader, seen, verdictOf, entryOf}
+use Rattle.at_record.specs.Outcome.{Reader, reader, seen, sight, verdictOf, entryOf}
 use Rattle.over_run.specs.Whole.{recordsIn}
 use Rattle.over_run.proofs.Sizes.{whole-fits, no-rest, number-below}
 use Rattle.at_record.proofs.Entered.{verdict-top}
@@ -83,13 +83,16 @@ as-it-was c =
     let h = head c in
     here (with h) (run₀ h) (h .loop .i) (fits (inside c)) (h .loop .run) (width h) (h .loop .inv .2) (omega arith)
 
-found : (c : tie.After-look Inv-loop μ-loop) → let h = head c in c .look .result ≡ seen (with h) (rec h)
-found c = c .look .ensures ∙ ap (seen (with (head c))) (as-it-was c)
+found : (c : tie.After-look Inv-loop μ-loop) → let h = head c in c .look .result ≡ sight (with h) (rec h)
+found c = c .look .ensures ∙ ap (sight (with (head c))) (as-it-was c)
+
+verdict-is : (c : tie.After-look Inv-loop μ-loop) → let h = head c in c .look .result .verdict ≡ seen (with h) (rec h)
+verdict-is c = ap (λ x. x .verdict) (found c)
 
 verdict-found : (c : tie.After-finding-of Inv-loop μ-loop)
     → let h = head (c .before) in c .finding-of .result .verdict ≡ verdictOf (with h) (rec h)
 unfolding verdictOf
-verdict-found c = ap (λ x. x .verdict) (c .finding-of .ensures) ∙ ap (λ v. findingOf v .verdict) (found (c .before))
+verdict-found c = ap (λ x. x .verdict) (c .finding-of .ensures) ∙ ap (λ v. findingOf v .verdict) (verdict-is (c .before))
 
 -- the tally with the record counted
 tally-next : (c : tie.After-counted Inv-loop μ-loop)
@@ -178,7 +181,7 @@ finding-of-requires c κs = search needs
 cast-found : tie.Need-cast-found Inv-loop μ-loop
 cast-found c =
     let f = c .before in
-    record { fits = omega (arith, ap (λ x. x .verdict) (f .finding-of .ensures), verdict-top (f .before .look .result)) }
+    record { fits = omega (arith, ap (λ x. x .verdict) (f .finding-of .ensures), verdict-top (f .before .look .result .verdict)) }
 
 counted-requires : tie.Need-counted-requires Inv-loop μ-loop
 counted-requires c κs = search needs
@@ -218,7 +221,7 @@ enter-requires c κs =
     let l = look-of (c .before .before) in
     let h = head l in
     let ready = start h .pre .ready in
-    (search needs, (search needs, (ready .held, subst (NamesPlace (start h .args .k)) (sym (found l)) (seen-names (with h) ready (rec h)))))
+    (search needs, (search needs, (ready .held, subst (NamesPlace (start h .args .k)) (sym (verdict-is l)) (seen-names (with h) ready (rec h)))))
 
 loop-less : tie.Need-loop-less Inv-loop μ-loop
 loop-less c = search needs
@@ -235,7 +238,7 @@ loop-again c =
       omega arith,
       refl,
       left-next (with h) (run₀ h) (m .i) within (m .run) (width h) (m .inv .2) (omega arith)
-          (e .enter .last .0) (l .look .result) (found l) (e .enter .ensures .0),
+          (e .enter .last .0) (l .look .result .verdict) (verdict-is l) (e .enter .ensures .0),
       entries-next (with h) (run₀ h) (m .i) within (a .stamp) (a .first) (a .journal .now) (m .journal) (e .enter .last .1 .0)
           (m .used) (m .used + (headSize + 2 * size h) - m .used)
           (l .look .result) _ (not-clean t) (m .inv .3) (m .inv .4) (omega arith) (found l) (as-it-was l) (e .enter .ensures .1),

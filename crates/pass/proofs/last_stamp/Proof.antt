@@ -8,20 +8,20 @@ use borrow.Author.Needs.{needs}
 use lib.ListN.{length, take, drop}
 use lib.Seq.{take-take}
 use Rattle.record.specs.Bytes.{numberOf}
-use Rattle.record.specs.Layout.{stampSize, entrySize}
+use Rattle.record.specs.Layout.{stampSize, headSize, recordSize, entrySize}
 use Rattle.over_run.proofs.Sizes.{whole-fits}
 use Rattle.pass.proofs.last_stamp.Statement.{statement}
 use Rattle.pass.proofs.last_stamp.Tie as tie
 
 -- the last entry in use lies within the journal
 abbrev at : tie.Start → ℕ
-at s = (s .args .used - 1) * (8 + 2 * (s .args .d + 2))
+at s = (s .args .used - 1) * (headSize + 2 * recordSize (s .args .d))
 
 ends : (s : tie.Start) → at s + entrySize (s .args .d) ≤ length (s .args .journal .now)
 ends s =
     let a = s .args in
     let size = entrySize (a .d) in
-    let e : 8 + 2 * (a .d + 2) ≡ size = omega arith in
+    let e : headSize + 2 * recordSize (a .d) ≡ size = omega arith in
     let n : suc (a .used - 1) ≡ a .used = omega (arith, s .pre .1 .0) in
     let all = whole-fits size (length (a .journal .now)) (a .used) (s .pre .1 .1) in
     omega (arith, all, suc-mul (a .used - 1) size, ap (λ m. m * size) n, ap (λ m. (a .used - 1) * m) e)
@@ -63,7 +63,7 @@ returns c =
     let s = c .before .before .before in
     let a = s .args in
     let size = entrySize (a .d) in
-    let e : 8 + 2 * (a .d + 2) ≡ size = omega arith in
+    let e : headSize + 2 * recordSize (a .d) ≡ size = omega arith in
     let four : at s + 4 - at s ≡ stampSize = omega arith in
     c .number .ensures
     ∙ ap numberOf

@@ -34,6 +34,18 @@ shared-slice-read-place c = omega arith
 cast-place : tie.Need-cast-place
 cast-place c = omega (arith, c .shared-slice-known3 .given (stampSize + numberSize + 1))
 
+sub-number-2 : tie.Need-sub-number-2
+sub-number-2 c = search needs
+
+part-number-start-2 : tie.Need-part-number-start-2
+part-number-start-2 c = search needs
+
+part-number-end-2 : tie.Need-part-number-end-2
+part-number-end-2 c = search needs
+
+number-requires-2 : tie.Need-number-requires-2
+number-requires-2 c κs = search needs
+
 slice-aggregate-put-filled : tie.Need-slice-aggregate-put-filled
 slice-aggregate-put-filled c = refl
 
@@ -43,14 +55,15 @@ slice-aggregate-put-filled-2 c = refl
 put-filled-requires : tie.Need-put-filled-requires
 unfolding entryLine codes holesIn
 put-filled-requires c κs =
-    let s = c .before .before .before .before .before .before .before .before .before in
+    let s = c .before .before .before .before .before .before .before .before .before .before .before in
     let e = s .args .entry .now in
-    let read = c .before .before .before .before .before .number in (
+    let read = c .before .before .before .before .before .before .before .number in
+    let last = c .before .before .before .number2 in (
       refl,
       omega (
         arith,
-        ap length (line-is e (read .result) (read .ensures)),
-        line-short e (λ k. omega (arith, c .before .before .before .before .before .before .before .shared-slice-known .given k)),
+        ap length (line-is e (read .result) (last .result) (read .ensures) (last .ensures)),
+        line-short e (λ k. omega (arith, c .before .before .before .before .before .before .before .before .before .shared-slice-known .given k)),
       ),
     )
 
@@ -60,9 +73,11 @@ same-length c = c .before .out .given
 returns : tie.Need-returns
 unfolding entryLine codes
 returns c =
-    let s = c .before .before .before .before .before .before .before .before .before .before .before .before in
-    let read = c .before .before .before .before .before .before .before .before .number in
-    rw (line-is (s .args .entry .now) (read .result) (read .ensures)) at (c .before .before .put-filled .ensures)
+    let s = c .before .before .before .before .before .before .before .before .before .before .before .before .before .before in
+    let read = c .before .before .before .before .before .before .before .before .before .before .number in
+    let last = c .before .before .before .before .before .before .number2 in
+    rw (line-is (s .args .entry .now) (read .result) (last .result) (read .ensures) (last .ensures))
+    at (c .before .before .put-filled .ensures)
 
 pub put-entry-line-spec : {M : Type 1} → statement M
 put-entry-line-spec =
@@ -76,6 +91,10 @@ put-entry-line-spec =
     cast-verdict
     shared-slice-read-place
     cast-place
+    sub-number-2
+    part-number-start-2
+    part-number-end-2
+    number-requires-2
     slice-aggregate-put-filled
     slice-aggregate-put-filled-2
     put-filled-requires

@@ -16,7 +16,7 @@ refused-reading-requires c κs = search needs
 returns : tie.Need-returns
 returns c =
     let a = c .before .before .before .args in
-    c .refused-reading .ensures ∙ sym (ap (λ v. readingBy v (a .k) (a .word)) (c .before .enum-told .given .1))
+    c .refused-reading .ensures ∙ sym (ap (λ v. readingBy v (a .syndrome) (a .k) (a .word)) (c .before .enum-told .given .1))
 
 finding-of-requires : tie.Need-finding-of-requires
 finding-of-requires c κs = search needs
@@ -33,9 +33,10 @@ returns-2 c =
       told = 0;
       verdict = f i .verdict;
       place = f i .place;
+      syndrome = a .syndrome;
       word = c .mended .ensures i;
     } in
-    e ∙ sym (reading-given (a .verdict) (a .k) (a .word) (c .before .before .match .keys2))
+    e ∙ sym (reading-given (a .verdict) (a .syndrome) (a .k) (a .word) (c .before .before .match .keys2))
 
 pub reading-by-spec : {M : Type 1} → statement M
 reading-by-spec =

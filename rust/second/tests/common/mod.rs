@@ -23,8 +23,8 @@ pub fn written(check: u16) -> Written {
     Written { number: 0, told: 0, check }
 }
 
-pub fn reading(verdict: usize, place: usize, data: u64, check: u16) -> Reading {
-    Reading { number: 0, told: 0, verdict, place, data, check }
+pub fn reading(verdict: usize, place: usize, data: u64, check: u16, syndrome: u16) -> Reading {
+    Reading { number: 0, told: 0, verdict, place, data, check, syndrome }
 }
 
 pub fn list_done(length: usize) -> Explained {
