@@ -14,7 +14,7 @@ use Rattle.word.specs.Word.{joined, flippedIn}
 use Rattle.word.specs.Verdicts.{findingOf}
 use Rattle.word.specs.Places.{NamesPlace}
 use Rattle.word.proofs.Named.{reading-names}
-use Rattle.at_record.specs.Outcome.{Reader, Ready, wordIn, seen, leftBy, entryBy, verdictOf, leftOf, entryOf}
+use Rattle.at_record.specs.Outcome.{Reader, Ready, wordIn, seen, leftBy, verdictOf, leftOf, entryOf}
 
 -- ---- any verdict
 

@@ -18,7 +18,7 @@ use Rattle.code.specs.declared.Judged.{Judged}
 use Rattle.code.specs.declared.Judged.the-variants.{Accepted}
 use Rattle.code.specs.Judge.{judgeIn}
 use Rattle.code.specs.Rule.{matrixOf, Limits, Hsiao}
-use Rattle.code.specs.Opened.{standingOf, judgementBy, judgementIn, laidOut, openedBy, openedOf, columnsOf}
+use Rattle.code.specs.Opened.{standingOf, judgementBy, laidOut, openedBy, openedOf, columnsOf}
 use Rattle.code.proofs.Laying.{laid-columns}
 use Rattle.code.proofs.Numbers.{zero-accepts}
 use Rattle.code.proofs.Table.{judge-rule}

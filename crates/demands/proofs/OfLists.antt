@@ -1,12 +1,12 @@
 -- The demands on explanations, proved from the layers' laws. Assumes nothing.
-use mathlib.Core.Path.{_≡_, refl, sym, ap, ap₂, subst, _∙_}
+use mathlib.Core.Path.{_≡_, sym, ap, ap₂, _∙_}
 use mathlib.Core.Logic.{_⊎_, _↔_}
 use mathlib.Core.Bool.{true}
 use mathlib.Core.List.{List}
-use Prim.Native.Nat.{ℕ, _+_, _*_, _-_, _/_, _^_, _≤_, _<_}
+use Prim.Native.Nat.{ℕ, _*_, _-_, _^_, _≤_, _<_}
 use native.Mathlib.Nat.{add-zero}
 use native.Mathlib.Omega.{arith}
-use lib.ListN.{length, getD, take, drop}
+use lib.ListN.{length, take, drop}
 use Rattle.parity.specs.Odd.{allRows}
 use Rattle.columns.specs.Mix.{mix, flipped}
 use Rattle.code.specs.declared.Code.{Code}
@@ -20,8 +20,8 @@ use Rattle.word.specs.Word.{joined, wordOf, inParts}
 use Rattle.word.specs.Verdicts.{readIn}
 use Rattle.mending.proofs.Reading.{data-inside}
 use Rattle.record.specs.Run.{over}
-use Rattle.listing.specs.Sets.{flipAll, entryOf, bytesFor}
-use Rattle.explain.specs.Order.{SetOf, InOrder}
+use Rattle.listing.specs.Sets.{flipAll, bytesFor}
+use Rattle.explain.specs.Order.{SetOf}
 use Rattle.explain.specs.Explanations.{Explained}
 use Rattle.explain.specs.Explanations as explaining
 use Rattle.explain.proofs.Answers.{said, setsOf, answer-refused, answer-stray, answer-limit, answer-no-room, answer-done}

@@ -2,19 +2,18 @@
 use Prim.{tt}
 use mathlib.Core.Path.{_≡_, refl, sym, ap, ap₂, _∙_}
 use mathlib.Core.Bool.{cond}
-use mathlib.Core.Logic.{_≢_, _⊎_, inl, inr, ⊎-elim}
+use mathlib.Core.Logic.{_⊎_, inl, inr, ⊎-elim}
 use mathlib.Core.List.{List, [], _∷_, _++_}
-use Prim.Native.Nat.{ℕ, zero, suc, _+_, _*_, _-_, _/_, _%_, _^_, _≤_, _<_}
+use Prim.Native.Nat.{ℕ, zero, suc, _+_, _-_, _^_, _≤_, _<_}
 use native.Mathlib.Nat.{add-zero}
 use native.Mathlib.Omega.{arith}
 use lib.Dec.{eqb}
-use lib.ListN.{length, take, drop}
+use lib.ListN.{length, take}
 use lib.Pow.{pow-mono}
 use Rattle.parity.proofs.Ones.{below-or-not}
 use Rattle.columns.specs.Mix.{column}
 use Rattle.code.specs.declared.Code.{Code}
 use Rattle.code.specs.declared.Opened.{Opened}
-use Rattle.code.specs.declared.Refusal.{Refusal}
 use Rattle.code.specs.declared.Standing.{Standing}
 use Rattle.code.specs.declared.Standing.the-variants as standing
 use Rattle.code.specs.Opened.{judgementBy, openedOf, columnsOf, Laid}
@@ -25,7 +24,7 @@ use Rattle.sound.proofs.Hsiao.{sound-code}
 use Rattle.word.specs.declared.Word.{Word}
 use Rattle.word.specs.declared.Verdict.{Verdict}
 use Rattle.word.specs.declared.Verdict.the-variants.{Clean, Data, Check, Even, Odd, Stray}
-use Rattle.word.specs.Word.{joined, flippedIn}
+use Rattle.word.specs.Word.{joined}
 use Rattle.word.specs.Places.{NamesPlace}
 use Rattle.word.specs.Verdicts.{findingOf, mendedBy}
 use Rattle.word.specs.Reading.{readingBy, readingAs}
@@ -55,7 +54,7 @@ use Rattle.desk.specs.Answers.{judgementOf, wordWith, narrowed, passedOf}
 use Rattle.demands.specs.Definitions as words
 use Rattle.demands.specs.Definitions.{Handed, Accepted, recordOf, readAt, verdictOf, placeFor, imageAfter, journalAfter, answerOf, Done, PassRefused, needed, countFrom, Turn, turnsAfter, AllStamped}
 use Rattle.demands.specs.Demands as demands
-use Rattle.demands.proofs.Codes.{judged-of, standing-accepted, standing-refused, data-is, opened-is, columns-are, limits-of, places-length}
+use Rattle.demands.proofs.Codes.{judged-of, standing-accepted, standing-refused, data-is, columns-are, limits-of, places-length}
 
 -- ---- refusals, in their order
 

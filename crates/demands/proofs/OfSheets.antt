@@ -9,7 +9,6 @@ use lib.Ieee.{Float, binary64, ofBits, round}
 use lib.Ieee.Bits.{is-true}
 use lib.Ieee.Scale.{finite}
 use lib.Ieee.Positive.{num, den, den-pos}
-use Rattle.sheet.specs.declared.SheetAnswer.{SheetAnswer}
 use Rattle.sheet.specs.declared.Limit.{Limit}
 use Rattle.sheet.specs.declared.Limit.the-variants.{Ceiling, Band, Open}
 use Rattle.sheet.specs.Sheets.{Asked, asked, zeroFigure, sheetOf}

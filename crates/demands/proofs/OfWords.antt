@@ -1,14 +1,13 @@
 -- The demands on writing and reading one word, proved from the layers' laws. Assumes nothing.
 use mathlib.Core.Path.{_≡_, refl, sym, ap, ap₂, subst, _∙_}
-use mathlib.Core.Bool.{true, cond, or-true}
+use mathlib.Core.Bool.{true, cond}
 use mathlib.Core.Logic.{_≢_, _⊎_, inl, inr, ⊎-elim}
 use mathlib.Core.List.{List}
-use Prim.Native.Nat.{ℕ, _+_, _-_, _*_, _^_, _≤_, _<_}
+use Prim.Native.Nat.{ℕ, _-_, _^_, _≤_, _<_}
 use native.Mathlib.Nat.{add-zero}
 use native.Mathlib.Omega.{arith}
-use borrow.Author.Tests.{lt-ltb, le-ltb, le-leb, lt-leb}
+use borrow.Author.Tests.{lt-ltb, le-ltb, lt-leb}
 use lib.Bits.{bitXor}
-use lib.Dec.{leb}
 use lib.ListN.{length, take, drop}
 use lib.Seq.{take-at, drop-at}
 use Rattle.parity.specs.Odd.{oddOnes, oddIn, allRows}
@@ -24,13 +23,13 @@ use Rattle.code.specs.declared.Code.{Code}
 use Rattle.code.specs.declared.Opened.{Opened}
 use Rattle.code.specs.declared.Standing.the-variants as standing
 use Rattle.code.specs.Rule.{matrixOf}
-use Rattle.code.specs.Opened.{only, openedOf, columnsOf}
+use Rattle.code.specs.Opened.{openedOf}
 use Rattle.code.proofs.Laying.{laid-columns}
 use Rattle.word.specs.declared.CheckWord.{CheckWord}
 use Rattle.word.specs.declared.Verdict.{Verdict}
 use Rattle.word.specs.declared.Verdict.the-variants.{Clean, Data, Check, Even, Odd, Stray}
-use Rattle.word.specs.Word.{joined, wordOf, dataOf, checkOf, strays, strayIn}
-use Rattle.word.specs.Verdicts.{readIn, syndromeIn, findingOf}
+use Rattle.word.specs.Word.{wordOf, strayIn}
+use Rattle.word.specs.Verdicts.{syndromeIn, findingOf}
 use Rattle.word.specs.Reading.{readingAs, readingBy}
 use Rattle.word.specs.Writing.{checksOf, writeIn, writingAs, writingOf}
 use Rattle.word.proofs.Rows.{on-clean}
@@ -46,9 +45,9 @@ use Rattle.desk.specs.Answers.{judgementOf, writtenOf, wordWith, narrowed, read
 use Rattle.demands.specs.Definitions.{Accepted, Unstrayed, placesOf, dataColumns, read, HandsBack}
 use Rattle.demands.specs.Definitions as words
 use Rattle.demands.specs.Demands as demands
-use Rattle.demands.proofs.Codes.{standing-refused, opened-is, limits-of, rule-of-code, data-length, places-length, sound-of}
+use Rattle.demands.proofs.Codes.{standing-refused, opened-is, rule-of-code, data-length, places-length, sound-of}
 use Rattle.demands.proofs.Words as words-of
-use Rattle.demands.proofs.Words.{verdictAt, reading-is, Answered, answered, answered-as, table, clean-zero}
+use Rattle.demands.proofs.Words.{verdictAt, reading-is, answered, answered-as, table, clean-zero}
 
 -- ---- writing
 

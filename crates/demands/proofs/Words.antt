@@ -2,7 +2,7 @@
 use mathlib.Core.Path.{_≡_, refl, sym, ap, ap₂, subst, _∙_}
 use mathlib.Core.Logic.{_↔_}
 use mathlib.Core.List.{List}
-use Prim.Native.Nat.{ℕ, _+_, _/_, _%_, _^_, _≤_, _<_}
+use Prim.Native.Nat.{ℕ, _^_, _<_}
 use native.Mathlib.Nat.{mod-eq-of-lt, div-eq-of-lt}
 use native.Mathlib.Omega.{arith}
 use lib.ListN.{length}
@@ -18,7 +18,7 @@ use Rattle.word.specs.declared.Word.{Word}
 use Rattle.word.specs.declared.Verdict.{Verdict}
 use Rattle.word.specs.declared.Verdict.the-variants.{Clean, Data, Check, Even, Odd, Stray}
 use Rattle.word.specs.Word.{dataOf, checkOf, inParts}
-use Rattle.word.specs.Verdicts.{verdictOn, readIn, syndromeIn, findingOf, mendedBy}
+use Rattle.word.specs.Verdicts.{verdictOn, readIn, syndromeIn, findingOf}
 use Rattle.word.specs.Table.{VerdictTable}
 use Rattle.word.specs.Reading.{givenReading, readingBy, readingOf}
 use Rattle.word.proofs.Exactly.{RowOf, verdict-row, verdict-table}
@@ -27,7 +27,7 @@ use Rattle.mending.proofs.Reading.{mendedNumber, mended-parts, read-number, dat
 use Rattle.mending.proofs.Syndromes.{syndrome-number}
 use Rattle.desk.specs.declared.ReadWord.{ReadWord}
 use Rattle.desk.specs.Answers.{wordWith, narrowed}
-use Rattle.demands.specs.Definitions.{Unstrayed, read, HandsBack, placesOf}
+use Rattle.demands.specs.Definitions.{Unstrayed, read, HandsBack}
 use Rattle.demands.specs.Definitions as words
 use Rattle.demands.proofs.Codes.{opened-is, limits-of, places-length, sound-of}
 

@@ -1,5 +1,5 @@
 -- THE PROOFS of the program's promises. Assumes nothing.
-use mathlib.Core.Path.{_≡_, sym}
+use mathlib.Core.Path.{sym}
 use Rattle.record.specs.Layout.{dataSize}
 use Rattle.runs.proofs.Entries.{head-said}
 use Rattle.report.specs.Text.{entryLine, lineOf}

@@ -1,14 +1,12 @@
 -- Demand 2 for one word under sound columns: clean exactly when the syndrome is 0, one flip named and put right, two flagged, and what is
 -- not mended cannot be by one flip. Words are numbers of n places. Over any family, any k and any r. Assumes nothing.
 use mathlib.Core.Path.{_≡_, refl, sym, ap, subst, _∙_}
-use mathlib.Core.Logic.{_≢_, _↔_, ⊎-elim}
+use mathlib.Core.Logic.{_≢_, _↔_}
 use mathlib.Core.List.{List}
-use Prim.Native.Nat.{ℕ, _+_, _^_, _≤_, _<_}
+use Prim.Native.Nat.{ℕ, _^_, _≤_, _<_}
 use native.Mathlib.Omega.{arith}
-use lib.Bits.{bitXor}
 use lib.ListN.{length}
 use Rattle.parity.specs.Odd.{oddIn}
-use Rattle.parity.proofs.Ones.{below-or-not}
 use Rattle.parity.proofs.Xor.{eq-of-xor-zero, xor-zero-of-eq}
 use Rattle.columns.specs.Mix.{column, mix, flipped}
 use Rattle.columns.specs.Sound.{Sound}
@@ -18,8 +16,6 @@ use Rattle.word.specs.declared.Verdict.{Verdict}
 use Rattle.word.specs.declared.Verdict.the-variants.{Clean, Data, Check, Even, Odd, Stray}
 use Rattle.word.specs.Word.{inParts}
 use Rattle.word.specs.Verdicts.{verdictOn, readIn, mendedBy}
-use Rattle.word.specs.Table.{VerdictTable}
-use Rattle.word.proofs.Rows.{on-clean}
 use Rattle.word.proofs.Strays.{in-verdict}
 use Rattle.word.proofs.Exactly.{RowOf, verdict-row, row-data, row-check, row-even}
 use Rattle.mending.proofs.Parts.{number-of-parts, parts-unstrayed, flipped-parts}

@@ -1,6 +1,6 @@
 -- A PASS IS OF ITS RUN: images that agree on the records of the run give the same answer, the same journal and the same records there.
 -- Assumes nothing.
-use mathlib.Core.Path.{_≡_, sym, ap, ap₂, subst, _∙_}
+use mathlib.Core.Path.{_≡_, sym, ap, subst, _∙_}
 use mathlib.Core.Logic.{_≢_, _⊎_}
 use mathlib.Core.List.{List}
 use Prim.Native.Nat.{ℕ, _+_, _-_, _*_, _/_, _%_, _≤_, _<_}
@@ -15,7 +15,7 @@ use Rattle.runs.proofs.Tallies.{tally-same}
 use Rattle.code.specs.declared.Opened.{Opened}
 use Rattle.code.specs.declared.Standing.the-variants as standing
 use Rattle.at_record.specs.Outcome.{Reader, verdictOf, leftOf, entryOf}
-use Rattle.pass.specs.Pass.{Pass, State, After, notedRun, neededRun, countRun, tallyRun, roomIn, behind, readerOf, afterPass}
+use Rattle.pass.specs.Pass.{Pass, State, After, notedRun, neededRun, countRun, tallyRun, behind, readerOf, afterPass}
 use Rattle.pass.specs.Asked.{Image, Run, Askable}
 use Rattle.pass.proofs.Cases.{refusedWith, doneWith, pass-refused}
 use Rattle.pass.proofs.Answers.{answer-12, answer-14, answer-17, answer-16, answer-13, answer-done}

@@ -3,9 +3,9 @@
 use Prim.{Unit, tt}
 use mathlib.Core.Path.{_≡_, refl, sym, ap, ap₂, _∙_}
 use mathlib.Core.Bool.{Bool, true, false, cond}
-use mathlib.Core.List.{List, [], _∷_, _++_, append-assoc, append-nil}
+use mathlib.Core.List.{List, [], _∷_, _++_, append-assoc}
 use Prim.Native.Nat.{ℕ, zero, suc, _+_, _*_, _-_, _≤_, _<_}
-use native.Mathlib.Nat.{add-zero, sub-self, suc-mul, mul-le-mul-right}
+use native.Mathlib.Nat.{add-zero, sub-self, suc-mul}
 use native.Mathlib.Omega.{arith}
 use borrow.Author.Tests.{eqb-true}
 use lib.Dec.{eqb}
@@ -13,9 +13,9 @@ use lib.ListN.{length, take, drop, length-append, take-append-drop}
 use lib.Seq.{take-at, drop-at, drop-drop, length-take-le}
 use Rattle.record.specs.Bytes.{byteSpan}
 use Rattle.record.specs.Layout.{recordSize, stampSize, numberSize, syndromeSize, entrySize, imageLimit, Entry, entryBytes, entryIn, inBytes}
-use Rattle.record.specs.Run.{recordAt, gather, over, fromRecord, overRun}
+use Rattle.record.specs.Run.{recordAt, gather, fromRecord, overRun}
 use Rattle.record.specs.Journal.{noted, entriesFrom, putRecord, applied, appliedAll}
-use Rattle.runs.proofs.Run.{record-length, record-drop, fits-less}
+use Rattle.runs.proofs.Run.{record-length, record-drop}
 use Rattle.runs.proofs.Entries.{entry-back, length-entry}
 use Rattle.runs.proofs.Image.{after-stays, run-split}
 use Rattle.code.specs.declared.Opened.{Opened}

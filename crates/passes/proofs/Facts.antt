@@ -21,14 +21,13 @@ use Rattle.word.specs.declared.Verdict.{Verdict}
 use Rattle.word.specs.declared.Verdict.the-variants.{Clean, Data, Check, Even, Odd, Stray}
 use Rattle.word.specs.Verdicts.{findingOf, mendedBy}
 use Rattle.at_record.specs.Outcome.{Reader, wordIn, recordOf, seen, syndromeOf, leftBy, verdictOf, leftOf, entryOf}
-use Rattle.over_run.specs.Whole.{recordsIn}
 use Rattle.pass.specs.Pass.{Pass, State, After, passOver, notedRun, neededRun, countRun, tallyRun, roomIn, behind, readerOf, afterPass}
 use Rattle.pass.specs.Asked.{Askable}
 use Rattle.over_run.proofs.Sizes.{whole-fits, run-width}
 use Rattle.at_record.proofs.Entered.{verdict-top}
 use Rattle.at_record.proofs.Outcomes.{length-leftOf, length-entryOf, kept}
 use Rattle.over_run.proofs.Turns.{entries-rise}
-use Rattle.pass.proofs.Cases.{refusedWith, doneWith}
+use Rattle.pass.proofs.Cases.{doneWith}
 use Rattle.pass.proofs.Answers.{answer-done}
 use Rattle.passes.proofs.Rows.{Ended, ended, done-asked, done-is}
 use Rattle.passes.proofs.Entries.{entry-of, entry-at}

@@ -1,16 +1,15 @@
 -- STAMPS: each new entry has the pass's, the last in use never lies above it, and along a journal that passes have filled from empty they
 -- never fall. Assumes nothing.
 use Prim.{Unit}
-use mathlib.Core.Path.{_≡_, refl, sym, ap, ap₂, subst, _∙_}
+use mathlib.Core.Path.{_≡_, sym, ap, subst, _∙_}
 use mathlib.Core.Bool.{cond}
 use mathlib.Core.Logic.{_≢_, _⊎_, inl, inr, ⊎-elim}
 use mathlib.Core.List.{List, [], _∷_}
 use Prim.Native.Nat.{ℕ, suc, _+_, _*_, _-_, _/_, _≤_, _<_}
-use native.Mathlib.Nat.{add-zero, mul-le-mul-right}
+use native.Mathlib.Nat.{mul-le-mul-right}
 use native.Mathlib.Omega.{arith}
 use borrow.Author.Tests.{eq-eqb, ne-eqb}
 use lib.Dec.{eqb}
-use lib.ListN.{length, take}
 use Rattle.parity.proofs.Ones.{below-or-not}
 use Rattle.record.specs.Bytes.{numberOf, bytesOf, byteSpan}
 use Rattle.record.specs.Layout.{stampSize, entrySize, entryIn}
@@ -21,7 +20,7 @@ use Rattle.runs.proofs.Entries.{stamp-said}
 use Rattle.code.specs.declared.Opened.{Opened}
 use Rattle.code.specs.declared.Refusal.{Refusal}
 use Rattle.code.specs.declared.Standing.the-variants as standing
-use Rattle.pass.specs.Pass.{Pass, State, After, neededRun, roomIn, stampAt, lastStamp, readerOf, afterPass}
+use Rattle.pass.specs.Pass.{Pass, State, After, neededRun, roomIn, stampAt, readerOf, afterPass}
 use Rattle.pass.specs.Asked.{GoesOn}
 use Rattle.passes.specs.Twice.{stateAfter, Step, stepsAfter}
 use Rattle.passes.proofs.Rows.{Ended, ended}

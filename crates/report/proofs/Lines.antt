@@ -1,6 +1,6 @@
 -- How long each text is, and the lines of a journal. Assumes nothing.
 use mathlib.Core.Path.{_≡_, sym, ap, ap₂, _∙_}
-use mathlib.Core.List.{List, [], _∷_, _++_}
+use mathlib.Core.List.{List, [], _++_}
 use Prim.Native.Nat.{ℕ, zero, suc, _+_, _*_, _/_, _^_, _≤_, _<_}
 use native.Mathlib.Omega.{arith}
 use lib.ListN.{length, getD, take, drop, length-append, length-take}
@@ -12,7 +12,7 @@ use Rattle.record.proofs.Bytes.{number-fits}
 use Rattle.runs.proofs.Numbers.{bytes-part}
 use Rattle.runs.proofs.Run.{record-append, gather-step, gather-add, gather-alike}
 use Rattle.report.specs.declared.Totals.{Totals}
-use Rattle.report.specs.Text.{codes, decimalOf, filled, entryLine, lineOf, journalText, lineSize, tallyText, refusedText, written}
+use Rattle.report.specs.Text.{codes, filled, entryLine, lineOf, journalText, lineSize, tallyText, refusedText, written}
 use Rattle.report.proofs.Written.{Puts, written-over}
 use Rattle.report.proofs.Decimal.{decimal-short}
 

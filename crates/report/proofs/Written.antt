@@ -4,7 +4,7 @@ use mathlib.Core.List.{List, [], _∷_, _++_, append-assoc}
 use Prim.Native.Nat.{ℕ, _+_, _≤_, _<_}
 use native.Mathlib.Numerals.{add-one}
 use native.Mathlib.Omega.{arith}
-use lib.ListN.{length, take, drop, set, length-append, length-take, length-drop}
+use lib.ListN.{length, take, drop, set, length-append, length-take}
 use lib.Seq.{set-split, drop-drop, length-take-le}
 use Rattle.record.specs.Run.{over}
 use Rattle.record.proofs.Over.{over-part}

@@ -6,7 +6,7 @@ use Prim.Native.Char.{code}
 use Prim.Native.String.{String, [] as nil, _∷_ as cons}
 use Prim.Native.Nat.{ℕ, zero, suc, _+_, _-_, _*_, _/_, _%_, _≤_}
 use lib.Dec.{ltb, eqb}
-use lib.ListN.{length, getD, take, drop}
+use lib.ListN.{length, take, drop}
 use Rattle.record.specs.Layout.{dataSize, entrySize, entryIn}
 use Rattle.record.specs.Run.{gather, over}
 use Rattle.report.specs.declared.Totals.{Totals}

@@ -1,9 +1,9 @@
 -- HSIAO'S FAMILY leads to the hub: accepted, its columns are sound, with all rows in the set. Assumes nothing.
-use mathlib.Core.Path.{_≡_, refl, sym, ap, subst, _∙_}
+use mathlib.Core.Path.{_≡_, refl, sym, subst, _∙_}
 use mathlib.Core.List.{List}
-use Prim.Native.Nat.{ℕ, _+_, _-_, _^_, _≤_, _<_}
+use Prim.Native.Nat.{ℕ, _-_, _^_, _≤_, _<_}
 use native.Mathlib.Omega.{arith}
-use lib.ListN.{length, take, drop}
+use lib.ListN.{length, take}
 use lib.Pow.{pow-lt}
 use lib.Seq.{length-take-le, drop-at}
 use Rattle.parity.specs.Odd.{oddOnes, oddIn, allRows, Parity}

@@ -2,7 +2,7 @@
 -- differ and are odd within a set of rows. Assumes nothing.
 use mathlib.Core.Path.{_≡_, refl, sym, ap, subst, _∙_}
 use mathlib.Core.Bool.{Bool, true, false, cond}
-use mathlib.Core.Logic.{_≢_, _⊎_, inl, inr, ⊎-elim}
+use mathlib.Core.Logic.{_≢_, _⊎_, ⊎-elim}
 use mathlib.Core.List.{List}
 use Prim.Native.Nat.{ℕ, zero, suc, _^_, _≤_, _<_}
 use native.Mathlib.Omega.{arith}
@@ -11,7 +11,6 @@ use lib.Count.{ones}
 use lib.Dec.{eqb, ltb}
 use lib.ListN.{length}
 use Rattle.parity.specs.Odd.{oddIn}
-use Rattle.parity.proofs.Ones.{below-or-not}
 use Rattle.parity.proofs.Rows.{parity-in}
 use Rattle.columns.specs.Mix.{column, placeIn}
 use Rattle.columns.specs.Rule.{Good}

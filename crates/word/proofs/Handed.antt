@@ -1,14 +1,11 @@
 -- The word handed back: which half a flip is in, and what each verdict gives. Assumes nothing.
 use mathlib.Core.Path.{_≡_, refl}
 use mathlib.Core.List.{List, [], _∷_}
-use Prim.Native.Nat.{ℕ, _-_, _+_, _≤_, _<_}
-use native.Mathlib.Omega.{arith}
+use Prim.Native.Nat.{ℕ, _-_, _≤_, _<_}
 use borrow.Author.Tests.{lt-ltb, le-ltb}
 use types.Run.{OneOf, miss}
 use denote.Enum.Declared.{tagOf}
-use lib.ListN.{length}
-use Rattle.parity.specs.Odd.{oddIn}
-use Rattle.columns.specs.Mix.{flipped, mix, placeIn}
+use Rattle.columns.specs.Mix.{flipped}
 use Rattle.word.proofs.Verdict.{the-type}
 use Rattle.word.specs.declared.Word.{Word}
 use Rattle.word.specs.declared.Verdict.{Verdict}

@@ -1,6 +1,5 @@
 -- `mend::main` is safe: what was read is a part of the buffer. Assumes nothing.
 use mathlib.Core.Path.{sym}
-use native.Mathlib.Omega.{arith}
 use lib.Seq.{length-take-le}
 use borrow.Author.Needs.{needs}
 use Rattle.mend.proofs.main.Statement.{statement}

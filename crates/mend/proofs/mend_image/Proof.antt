@@ -4,7 +4,6 @@ use Prim.Native.Nat.{_%_}
 use native.Mathlib.Omega.{arith}
 use lib.ListN.{length, replicate}
 use Rattle.record.specs.Layout.{dataSize, recordSize}
-use Rattle.code.specs.declared.Opened.{Opened}
 use Rattle.code.specs.Opened.{openedOf}
 use Rattle.code.specs.Sample.{sampleCode}
 use Rattle.pass.specs.Asked.{Image}

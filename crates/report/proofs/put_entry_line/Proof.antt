@@ -1,9 +1,9 @@
 -- `report::put_entry_line` meets its contract: the numbers of the entry's head. Assumes nothing.
-use mathlib.Core.Path.{refl, sym, ap}
+use mathlib.Core.Path.{refl, ap}
 use Prim.Native.Nat.{_+_}
 use native.Mathlib.Omega.{arith}
 use borrow.Author.Needs.{needs}
-use lib.ListN.{length, length-take}
+use lib.ListN.{length}
 use Rattle.record.specs.Layout.{stampSize, numberSize}
 use Rattle.report.specs.Text.{codes, holesIn, entryLine}
 use Rattle.report.proofs.Lines.{line-is, line-short}
