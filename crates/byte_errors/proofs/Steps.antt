@@ -176,7 +176,7 @@ by-data s w i v d =
     let n = steps-no s (d .no-step-1) (d .no-step-2) in
     let q : Solves s i = (d .second, d .third) in
     let l = solution-found s 7 0 i zero-le (d .below) q in
-    let e = solution-only s (solutionIn s 7 0) i (v .first) set l (d .below) (solution-at s 7 0 l) q in (
+    let e = solution-only s (solutionIn s 7 0) i (v .first) nonzero l (d .below) (solution-at s 7 0 l) q in (
       record {
         below = omega (arith, d .below);
         vector = v .first;
@@ -189,8 +189,8 @@ by-data s w i v d =
     taken : (k part : ℕ) → powerT k (s .first) ≡ part → s .first ≡ 0 → part ≡ 0
     taken k part e z = sym e ∙ ap (powerT k) z ∙ power-zero k
 
-    set : s .first ≢ 0
-    set z =
+    nonzero : s .first ≢ 0
+    nonzero z =
         d .no-step-1
         (record { first = z; second = taken i (s .second) (d .second) z; third = taken (2 * i) (s .third) (d .third) z })
 
