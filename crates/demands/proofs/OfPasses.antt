@@ -40,7 +40,8 @@ use Rattle.runs.proofs.Run.{record-drop}
 use Rattle.runs.proofs.Tallies.{tally-same}
 use Rattle.at_record.specs.Outcome as outcome
 use Rattle.at_record.specs.Outcome.{Reader, Held, wordIn, seen}
-use Rattle.pass.specs.Pass.{Pass, State, After, passOver, readerOf, countRun}
+use Rattle.asked.specs.Pass.{Pass, State, passOver}
+use Rattle.pass.specs.Pass.{After, readerOf, countRun}
 use Rattle.pass.proofs.Cases.{refusedWith, pass-refused}
 use Rattle.pass.proofs.Answers.{answer-12, answer-14, answer-17, answer-16, answer-13, answer-done}
 use Rattle.passes.specs.Twice.{Step, stepsAfter}

@@ -24,7 +24,8 @@ use Rattle.record.specs.Layout.{dataSize, recordSize, entrySize, dataIn, checkI
 use Rattle.record.specs.Run.{recordAt}
 use Rattle.record.specs.Journal.{entriesFrom}
 use Rattle.pass.specs.declared.PassAnswer.{PassAnswer}
-use Rattle.pass.specs.Pass.{Pass, State, readerOf, neededRun}
+use Rattle.asked.specs.Pass.{Pass, State}
+use Rattle.pass.specs.Pass.{readerOf, neededRun}
 use Rattle.passes.specs.Twice.{stateIn}
 use Rattle.desk.specs.declared.ReadWord.{ReadWord}
 use Rattle.desk.specs.Answers.{judgementOf, readOf, passedOf}

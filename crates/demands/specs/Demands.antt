@@ -33,8 +33,8 @@ use Rattle.listing.specs.Sets.{flipAll, entryOf, bytesFor}
 use Rattle.explain.specs.Order.{SetOf, InOrder}
 use Rattle.cards.specs.Cards.{cardAt}
 use Rattle.cards.specs.Rule.{CardProof, FirstWeak, flipMask}
-use Rattle.pass.specs.Pass.{Pass, State, passOver, stateOf, stampAt}
-use Rattle.pass.specs.Asked.{Image, NoImage, Run, NoRun, GoesBack, Askable}
+use Rattle.asked.specs.Pass.{Pass, State, passOver, stateOf, stampAt}
+use Rattle.asked.specs.Asked.{Image, NoImage, Run, NoRun, GoesBack, Askable}
 use Rattle.passes.specs.Twice.{added, tallyAgain}
 use Rattle.sheet.specs.Sheets.{Asked}
 use Rattle.sheet.specs.Rule.{NoSheet, Stands, Within}

@@ -19,7 +19,8 @@ use Rattle.record.specs.Layout.{dataSize}
 use Rattle.explain.specs.Explanations.{Explained, explainOf}
 use Rattle.cards.specs.declared.CardCheck.{CardCheck}
 use Rattle.cards.specs.Checking.{cardedOf}
-use Rattle.pass.specs.Pass.{Pass, State, After, afterPass}
+use Rattle.asked.specs.Pass.{Pass, State}
+use Rattle.pass.specs.Pass.{After, afterPass}
 use Rattle.sheet.specs.declared.SheetAnswer.{SheetAnswer}
 use Rattle.sheet.specs.declared.Limit.the-variants.{Ceiling, Band, Open}
 use Rattle.sheet.specs.Sheets.{asked, sheetOf}

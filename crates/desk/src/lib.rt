@@ -1,6 +1,6 @@
 // What a caller outside links: one function for each question, total, each answer a struct by value.
 ghost use mathlib.Core.Path.{_≡_};
-ghost use Rattle.pass.specs.Pass.{passOver, stateOf};
+ghost use Rattle.asked.specs.Pass.{passOver, stateOf};
 ghost use Rattle.desk.specs.Answers.{version, checkBitsOf, judgementOf, rowsOf, writtenOf, readOf, explainedOf, cardsOf, passedOf};
 ghost use Rattle.desk.specs.Answers.{ceilingSheet, bandSheet, openSheet};
 ghost use Rattle.desk.specs.Answers.{madeOf};

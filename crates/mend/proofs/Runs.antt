@@ -8,7 +8,7 @@ use lib.ListN.{length, take, drop}
 use lib.Seq.{take-at}
 use lib.Count.{ones, onesIn}
 use Rattle.columns.specs.Mix.{placeIn}
-use Rattle.record.specs.Layout.{dataSize, recordSize, entrySize, inBytes}
+use Rattle.record.specs.Layout.{dataSize, recordSize, entrySize, inBytes, recordsIn}
 use Rattle.record.specs.Run.{gather, addUp, over, fromRecord}
 use Rattle.record.specs.Tally.{oneIf}
 use Rattle.record.specs.Journal.{noted}
@@ -23,9 +23,9 @@ use Rattle.code.specs.Sample.{sampleCode}
 use Rattle.code.proofs.Laid.{refused-no-acceptance}
 use Rattle.pass.specs.declared.PassAnswer.{PassAnswer}
 use Rattle.at_record.specs.Outcome.{verdictOf, leftOf, entryOf}
-use Rattle.over_run.specs.Whole.{recordsIn}
-use Rattle.pass.specs.Pass.{Pass, State, After, passOver, stateOf, notedRun, neededRun, countRun, roomIn, afterPass}
-use Rattle.pass.specs.Asked.{Image}
+use Rattle.asked.specs.Pass.{Pass, State, passOver, stateOf, roomIn}
+use Rattle.pass.specs.Pass.{After, notedRun, neededRun, countRun, afterPass}
+use Rattle.asked.specs.Asked.{Image}
 use Rattle.pass.proofs.Cases.{doneWith}
 use Rattle.pass.proofs.Answers.{answer-12, answer-done}
 use Rattle.at_record.proofs.Outcomes.{length-leftOf}

@@ -7,8 +7,9 @@ use Rattle.record.specs.Layout.{dataSize, entrySize, inBytes}
 use Rattle.code.specs.Opened.{openedOf}
 use Rattle.code.specs.Sample.{sampleCode}
 use Rattle.at_record.specs.Outcome.{Reader}
-use Rattle.pass.specs.Pass.{readerOf, leftRun, notedRun, tallyRun, roomIn}
-use Rattle.pass.specs.Asked.{Image, Run}
+use Rattle.pass.specs.Pass.{readerOf, leftRun, notedRun, tallyRun}
+use Rattle.asked.specs.Pass.{roomIn}
+use Rattle.asked.specs.Asked.{Image, Run}
 use Rattle.report.specs.declared.Totals.{Totals}
 use Rattle.report.specs.Text.{lineSize, journalText}
 

@@ -5,8 +5,7 @@ use mathlib.Core.List.{List, _++_}
 use Prim.Native.Nat.{ℕ, _≤_, _<_}
 use lib.ListN.{length}
 use Rattle.record.specs.Bytes.{byteSpan}
-use Rattle.record.specs.Layout.{dataSize, recordSize, numberSize, syndromeSize, Entry, entryBytes}
-use Rattle.over_run.specs.Whole.{recordsIn}
+use Rattle.record.specs.Layout.{dataSize, recordSize, numberSize, syndromeSize, Entry, entryBytes, recordsIn}
 use Rattle.report.specs.Text.{decimalOf, saidFrom, entryLine, lineOf}
 use Rattle.report.specs.Totals.{addedTo}
 use Rattle.mend.specs.Mend.{runTally, runLeft, runText, asTotals}

@@ -2,12 +2,11 @@
 ghost use mathlib.Core.Path.{_≡_};
 ghost use Prim.Native.Nat.{_+_, _*_, _≤_, _<_};
 ghost use lib.ListN.{length};
-ghost use Rattle.record.specs.Layout.{dataSize, imageLimit};
+ghost use Rattle.record.specs.Layout.{dataSize, imageLimit, recordsIn};
 ghost use Rattle.record.specs.Run.{over};
 ghost use Rattle.code.specs.Sample.{sampleCode};
-ghost use Rattle.over_run.specs.Whole.{recordsIn};
-ghost use Rattle.pass.specs.Pass.{roomIn};
-ghost use Rattle.pass.specs.Asked.{Image};
+ghost use Rattle.asked.specs.Pass.{roomIn};
+ghost use Rattle.asked.specs.Asked.{Image};
 ghost use Rattle.report.specs.Text.{lineSize};
 ghost use Rattle.mend.specs.Mend.{runTally, runLeft, runText, runSize, Ready, asTotals};
 use code::Code;

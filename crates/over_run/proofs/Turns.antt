@@ -8,7 +8,7 @@ use native.Mathlib.Nat.{suc-mul, mul-suc, mul-add, mul-one, mul-le-mul-left}
 use native.Mathlib.Omega.{arith}
 use borrow.Rule.Slice.PartMut.{putMid}
 use lib.ListN.{length, take, drop}
-use Rattle.record.specs.Layout.{recordSize, entrySize, Entry, entryBytes, inBytes}
+use Rattle.record.specs.Layout.{recordSize, entrySize, Entry, entryBytes, inBytes, recordsIn}
 use Rattle.record.specs.Run.{recordAt, gather, over}
 use Rattle.record.specs.Journal.{unclean, neededOf, entriesOf}
 use Rattle.runs.proofs.Run.{record-length, record-next, record-kept, gather-write, sum-mono, length-left}
@@ -16,7 +16,7 @@ use Rattle.runs.proofs.Journal.{needed-more, entries-write, length-entries}
 use Rattle.word.specs.declared.Verdict.{Verdict}
 use Rattle.word.specs.declared.Sight.{Sight}
 use Rattle.at_record.specs.Outcome.{Reader, seen, sight, leftBy, entryBy, verdictOf, leftOf, entryOf}
-use Rattle.over_run.specs.Whole.{recordsIn, neededBy}
+use Rattle.over_run.specs.Whole.{neededBy}
 use Rattle.at_record.proofs.Outcomes.{length-leftOf, length-entryOf, clean-kept}
 
 -- entries stand in the order of their records

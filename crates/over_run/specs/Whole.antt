@@ -2,17 +2,14 @@
 -- nothing.
 use mathlib.Core.Path.{_≡_}
 use mathlib.Core.List.{List}
-use Prim.Native.Nat.{ℕ, _+_, _*_, _/_, _%_, _≤_}
+use Prim.Native.Nat.{ℕ, _+_, _*_, _%_, _≤_}
 use lib.ListN.{length}
 use Rattle.record.specs.declared.Tally.{Tally}
-use Rattle.record.specs.Layout.{recordSize, entrySize, imageLimit, Entry}
+use Rattle.record.specs.Layout.{recordSize, entrySize, imageLimit, recordsIn, Entry}
 use Rattle.record.specs.Run.{gather}
 use Rattle.record.specs.Tally.{tallyOf}
 use Rattle.record.specs.Journal.{neededOf, entriesOf}
 use Rattle.at_record.specs.Outcome.{Reader, Ready, verdictOf, leftOf, entryOf}
-
-abbrev pub recordsIn : ℕ → List ℕ → ℕ
-recordsIn d bytes = length bytes / recordSize d
 
 -- how many entries they need; their tally; what is left of them; their entries, with the pass's stamp, where the first record has the
 -- number `first`

@@ -6,9 +6,11 @@ use Prim.Native.Nat.{ℕ, _-_, _≤_, _<_}
 use native.Mathlib.Omega.{arith}
 use Rattle.code.specs.declared.Opened.{Opened}
 use Rattle.code.specs.declared.Standing.the-variants as standing
-use Rattle.pass.specs.Pass.{Pass, State, neededRun, roomIn, wrongIn, readerOf, afterPass}
-use Rattle.pass.specs.Asked.{Image, NoImage, Run, NoRun, GoesBack, Askable}
-use Rattle.pass.proofs.Cases.{refusedWith, doneWith, wrong-12, wrong-14, wrong-17, wrong-16, wrong-none, refused-first, no-room, done, pass-accepted}
+use Rattle.asked.specs.Pass.{Pass, State, roomIn, wrongIn}
+use Rattle.pass.specs.Pass.{neededRun, readerOf, afterPass}
+use Rattle.asked.specs.Asked.{Image, NoImage, Run, NoRun, GoesBack, Askable}
+use Rattle.pass.proofs.Cases.{refusedWith, doneWith, refused-first, no-room, done, pass-accepted}
+use Rattle.asked.proofs.Cases.{wrong-12, wrong-14, wrong-17, wrong-16, wrong-none}
 
 module _ (o : Opened) (d : ℕ) (p : Pass) (s : State) (taken : o .standing ≡ standing.Accepted) where
   -- a number that refuses it before its records are looked at

@@ -15,8 +15,9 @@ use Rattle.runs.proofs.Tallies.{tally-same}
 use Rattle.code.specs.declared.Opened.{Opened}
 use Rattle.code.specs.declared.Standing.the-variants as standing
 use Rattle.at_record.specs.Outcome.{Reader, verdictOf, leftOf, entryOf}
-use Rattle.pass.specs.Pass.{Pass, State, After, notedRun, neededRun, countRun, tallyRun, behind, readerOf, afterPass}
-use Rattle.pass.specs.Asked.{Image, Run, Askable}
+use Rattle.asked.specs.Pass.{Pass, State}
+use Rattle.pass.specs.Pass.{After, notedRun, neededRun, countRun, tallyRun, behind, readerOf, afterPass}
+use Rattle.asked.specs.Asked.{Image, Run, Askable}
 use Rattle.pass.proofs.Cases.{refusedWith, doneWith, pass-refused}
 use Rattle.pass.proofs.Answers.{answer-12, answer-14, answer-17, answer-16, answer-13, answer-done}
 use Rattle.passes.proofs.Rows.{Row, row-of}

@@ -12,7 +12,7 @@ use lib.Dec.{eqb}
 use lib.ListN.{length, take, drop, length-append, take-append-drop}
 use lib.Seq.{take-at, drop-at, drop-drop, length-take-le}
 use Rattle.record.specs.Bytes.{byteSpan}
-use Rattle.record.specs.Layout.{recordSize, stampSize, numberSize, syndromeSize, entrySize, imageLimit, Entry, entryBytes, entryIn, inBytes}
+use Rattle.record.specs.Layout.{recordSize, stampSize, numberSize, syndromeSize, entrySize, imageLimit, Entry, entryBytes, entryIn, inBytes, recordsIn}
 use Rattle.record.specs.Run.{recordAt, gather, fromRecord, overRun}
 use Rattle.record.specs.Journal.{noted, entriesFrom, putRecord, applied, appliedAll}
 use Rattle.runs.proofs.Run.{record-length, record-drop}
@@ -22,9 +22,9 @@ use Rattle.code.specs.declared.Opened.{Opened}
 use Rattle.code.specs.declared.Standing.the-variants as standing
 use Rattle.at_record.specs.Outcome.{Reader, syndromeOf, verdictOf, leftOf, entryOf}
 use Rattle.at_record.proofs.Outcomes.{length-leftOf, clean-kept}
-use Rattle.over_run.specs.Whole.{recordsIn}
-use Rattle.over_run.proofs.Sizes.{number-below}
-use Rattle.pass.specs.Pass.{Pass, State, After, leftRun, notedRun, neededRun, readerOf, afterPass}
+use Rattle.runs.proofs.Sizes.{number-below}
+use Rattle.asked.specs.Pass.{Pass, State}
+use Rattle.pass.specs.Pass.{After, leftRun, notedRun, neededRun, readerOf, afterPass}
 use Rattle.passes.proofs.Rows.{done-is}
 use Rattle.passes.proofs.Facts.{asked, rising, fits, in-use, count-notedRun}
 

@@ -21,9 +21,10 @@ use Rattle.word.specs.declared.Verdict.{Verdict}
 use Rattle.word.specs.declared.Verdict.the-variants.{Clean, Data, Check, Even, Odd, Stray}
 use Rattle.word.specs.Verdicts.{findingOf, mendedBy}
 use Rattle.at_record.specs.Outcome.{Reader, wordIn, recordOf, seen, syndromeOf, leftBy, verdictOf, leftOf, entryOf}
-use Rattle.pass.specs.Pass.{Pass, State, After, passOver, notedRun, neededRun, countRun, tallyRun, roomIn, behind, readerOf, afterPass}
-use Rattle.pass.specs.Asked.{Askable}
-use Rattle.over_run.proofs.Sizes.{whole-fits, run-width}
+use Rattle.asked.specs.Pass.{Pass, State, passOver, roomIn}
+use Rattle.pass.specs.Pass.{After, notedRun, neededRun, countRun, tallyRun, behind, readerOf, afterPass}
+use Rattle.asked.specs.Asked.{Askable}
+use Rattle.runs.proofs.Sizes.{whole-fits, run-width}
 use Rattle.at_record.proofs.Entered.{verdict-top}
 use Rattle.at_record.proofs.Outcomes.{length-leftOf, length-entryOf, kept}
 use Rattle.over_run.proofs.Turns.{entries-rise}

@@ -10,9 +10,11 @@ use Rattle.code.specs.declared.Refusal.{Refusal}
 use Rattle.code.specs.declared.Standing.{Standing}
 use Rattle.code.specs.declared.Standing.the-variants as standing
 use Rattle.code.proofs.Laid.{refused-no-acceptance}
-use Rattle.pass.specs.Pass.{Pass, State, After, neededRun, roomIn, readerOf, afterPass}
-use Rattle.pass.specs.Asked.{Image, NoImage, Run, NoRun, GoesBack, Askable}
-use Rattle.pass.proofs.Cases.{refusedWith, doneWith, pass-refused, Wrong, wrong-row}
+use Rattle.asked.specs.Pass.{Pass, State, roomIn}
+use Rattle.pass.specs.Pass.{After, neededRun, readerOf, afterPass}
+use Rattle.asked.specs.Asked.{Image, NoImage, Run, NoRun, GoesBack, Askable}
+use Rattle.pass.proofs.Cases.{refusedWith, doneWith, pass-refused}
+use Rattle.asked.proofs.Cases.{Wrong, wrong-row}
 use Rattle.pass.proofs.Answers.{answer-12, answer-14, answer-17, answer-16, answer-13, answer-done}
 
 pub data Row (o : Opened) (d : ℕ) (p : Pass) (s : State) : Type 0 where

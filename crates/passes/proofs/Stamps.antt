@@ -20,8 +20,9 @@ use Rattle.runs.proofs.Entries.{stamp-said}
 use Rattle.code.specs.declared.Opened.{Opened}
 use Rattle.code.specs.declared.Refusal.{Refusal}
 use Rattle.code.specs.declared.Standing.the-variants as standing
-use Rattle.pass.specs.Pass.{Pass, State, After, neededRun, roomIn, stampAt, readerOf, afterPass}
-use Rattle.pass.specs.Asked.{GoesOn}
+use Rattle.asked.specs.Pass.{Pass, State, roomIn, stampAt}
+use Rattle.pass.specs.Pass.{After, neededRun, readerOf, afterPass}
+use Rattle.asked.specs.Asked.{GoesOn}
 use Rattle.passes.specs.Twice.{stateAfter, Step, stepsAfter}
 use Rattle.passes.proofs.Rows.{Ended, ended}
 use Rattle.passes.proofs.Facts.{asked, in-use-after, entered, entry-is, entry-whose, used-stay, length-journal, used-is}

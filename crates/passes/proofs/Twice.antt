@@ -26,8 +26,9 @@ use Rattle.code.specs.declared.Opened.{Opened}
 use Rattle.code.specs.declared.Standing.the-variants as standing
 use Rattle.code.specs.Opened.{Laid, SoundOpened}
 use Rattle.at_record.specs.Outcome.{Reader, Held, verdictOf, leftOf, entryOf}
-use Rattle.pass.specs.Pass.{Pass, State, After, passOver, stateOf, leftRun, notedRun, neededRun, countRun, tallyRun, roomIn, behind, readerOf, afterPass}
-use Rattle.pass.specs.Asked.{GoesOn, Askable}
+use Rattle.asked.specs.Pass.{Pass, State, passOver, stateOf, roomIn}
+use Rattle.pass.specs.Pass.{After, leftRun, notedRun, neededRun, countRun, tallyRun, behind, readerOf, afterPass}
+use Rattle.asked.specs.Asked.{GoesOn, Askable}
 use Rattle.at_record.proofs.Outcomes.{length-leftOf}
 use Rattle.pass.proofs.Cases.{doneWith}
 use Rattle.pass.proofs.Answers.{answer-done}

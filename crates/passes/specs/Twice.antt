@@ -5,7 +5,8 @@ use Prim.Native.Nat.{ℕ, _+_}
 use lib.Dec.{eqb}
 use Rattle.record.specs.declared.Tally.{Tally}
 use Rattle.code.specs.declared.Opened.{Opened}
-use Rattle.pass.specs.Pass.{Pass, State, After, afterPass}
+use Rattle.asked.specs.Pass.{Pass, State}
+use Rattle.pass.specs.Pass.{After, afterPass}
 
 -- ---- the state that passes leave
 

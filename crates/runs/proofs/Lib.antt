@@ -7,3 +7,4 @@ pub mod Run
 pub mod Image
 pub mod Tallies
 pub mod Journal
+pub mod Sizes

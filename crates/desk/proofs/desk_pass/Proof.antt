@@ -1,7 +1,8 @@
 -- `desk::desk_pass` meets its contract: an opening, and the question. Assumes nothing.
 use mathlib.Core.Path.{ap, _∙_}
 use Rattle.record.specs.Layout.{dataSize}
-use Rattle.pass.specs.Pass.{After, passOver, stateOf, afterPass}
+use Rattle.pass.specs.Pass.{After, afterPass}
+use Rattle.asked.specs.Pass.{passOver, stateOf}
 use borrow.Author.Needs.{needs}
 use Rattle.desk.proofs.desk_pass.Statement.{statement}
 use Rattle.desk.proofs.desk_pass.Tie as tie

@@ -6,7 +6,7 @@ use lib.ListN.{length, replicate}
 use Rattle.record.specs.Layout.{dataSize, recordSize}
 use Rattle.code.specs.Opened.{openedOf}
 use Rattle.code.specs.Sample.{sampleCode}
-use Rattle.pass.specs.Asked.{Image}
+use Rattle.asked.specs.Asked.{Image}
 use Rattle.mend.proofs.Runs.{taken-image, refused-by-12}
 use borrow.Author.Needs.{needs}
 use Rattle.mend.proofs.mend_image.Statement.{statement}

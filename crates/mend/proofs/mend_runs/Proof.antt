@@ -6,8 +6,7 @@ use Prim.Native.Nat.{ℕ, _-_, _%_, _≤_}
 use native.Mathlib.Omega.{arith}
 use borrow.Author.Needs.{needs}
 use lib.ListN.{length}
-use Rattle.record.specs.Layout.{dataSize, recordSize}
-use Rattle.over_run.specs.Whole.{recordsIn}
+use Rattle.record.specs.Layout.{dataSize, recordSize, recordsIn}
 use Rattle.report.specs.Totals.{addedTo}
 use Rattle.mend.specs.Mend.{runTally, runLeft, asTotals}
 use Rattle.mend.proofs.Runs.{left-none, totals-none, totals-within, left-next, totals-next}

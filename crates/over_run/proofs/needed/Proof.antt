@@ -5,14 +5,13 @@ use native.Mathlib.Nat.{suc-mul, div-le-self}
 use native.Mathlib.Omega.{arith}
 use borrow.Author.Needs.{needs}
 use lib.ListN.{length, take, drop}
-use Rattle.record.specs.Layout.{recordSize}
+use Rattle.record.specs.Layout.{recordSize, recordsIn}
 use Rattle.record.specs.Run.{recordAt, addUp}
 use Rattle.record.specs.Journal.{neededOf}
 use Rattle.runs.proofs.Journal.{needed-clean, needed-more, needed-or-clean}
 use Rattle.word.specs.Verdicts.{findingOf}
 use Rattle.at_record.specs.Outcome.{Reader, reader, seen, verdictOf}
-use Rattle.over_run.specs.Whole.{recordsIn}
-use Rattle.over_run.proofs.Sizes.{whole-fits}
+use Rattle.runs.proofs.Sizes.{whole-fits}
 use Rattle.over_run.proofs.needed.Statement.{statement}
 use Rattle.over_run.proofs.needed.Tie as tie
 

@@ -8,7 +8,7 @@ use native.Mathlib.Nat.{suc-mul, mul-zero}
 use native.Mathlib.Omega.{arith}
 use borrow.Author.Needs.{needs}
 use lib.ListN.{length, take, drop}
-use Rattle.record.specs.Layout.{recordSize, headSize, entrySize, inBytes}
+use Rattle.record.specs.Layout.{recordSize, headSize, entrySize, inBytes, recordsIn}
 use Rattle.record.specs.Run.{recordAt, gather, addUp, over}
 use Rattle.record.specs.Tally.{countedOf, tallyOf}
 use Rattle.record.proofs.Over.{over-all}
@@ -17,8 +17,7 @@ use Rattle.runs.proofs.Journal.{needed-clean, entries-clean}
 use Rattle.word.specs.Places.{NamesPlace}
 use Rattle.word.specs.Verdicts.{findingOf}
 use Rattle.at_record.specs.Outcome.{Reader, reader, seen, sight, verdictOf, entryOf}
-use Rattle.over_run.specs.Whole.{recordsIn}
-use Rattle.over_run.proofs.Sizes.{whole-fits, no-rest, number-below}
+use Rattle.runs.proofs.Sizes.{whole-fits, no-rest, number-below}
 use Rattle.at_record.proofs.Entered.{verdict-top}
 use Rattle.at_record.proofs.Outcomes.{seen-names}
 use Rattle.over_run.proofs.Turns.{leftTo, entriesTo, countTo, length-leftTo, here, left-next, left-clean, entries-next, entry-room, used-next}

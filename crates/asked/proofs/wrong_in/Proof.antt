@@ -1,15 +1,15 @@
--- `pass::wrong_in` meets its contract: each test that fails gives its number. Assumes nothing.
+-- `asked::wrong_in` meets its contract: each test that fails gives its number. Assumes nothing.
 use mathlib.Core.Path.{_≡_, sym, ap}
 use Prim.Native.Nat.{_+_, _*_, _/_}
 use native.Mathlib.Omega.{arith}
 use borrow.Author.Needs.{needs}
 use lib.ListN.{length}
 use Rattle.record.specs.Layout.{headSize, recordSize, entrySize}
-use Rattle.pass.specs.Pass.{Pass, State, passOver, stateOf, roomIn}
-use Rattle.over_run.proofs.Sizes.{quotient-back}
-use Rattle.pass.proofs.Cases.{too-long, uneven, turned-round, past, over-used, back, none-used, on}
-use Rattle.pass.proofs.wrong_in.Statement.{statement}
-use Rattle.pass.proofs.wrong_in.Tie as tie
+use Rattle.asked.specs.Pass.{Pass, State, passOver, stateOf, roomIn}
+use Rattle.runs.proofs.Sizes.{quotient-back}
+use Rattle.asked.proofs.Cases.{too-long, uneven, turned-round, past, over-used, back, none-used, on}
+use Rattle.asked.proofs.wrong_in.Statement.{statement}
+use Rattle.asked.proofs.wrong_in.Tie as tie
 
 -- what the pass is told, and what it works on
 abbrev told : tie.Start → Pass

@@ -1,4 +1,4 @@
--- `pass::last_stamp` meets its contract: the first bytes of the last entry in use. Assumes nothing.
+-- `asked::last_stamp` meets its contract: the first bytes of the last entry in use. Assumes nothing.
 use mathlib.Core.Path.{_≡_, ap, ap₂, sym, _∙_}
 use Prim.Native.Nat.{ℕ, suc, _+_, _-_, _*_, _≤_}
 use native.Mathlib.Nat.{suc-mul}
@@ -8,9 +8,9 @@ use lib.ListN.{length, take, drop}
 use lib.Seq.{take-take}
 use Rattle.record.specs.Bytes.{numberOf}
 use Rattle.record.specs.Layout.{stampSize, headSize, recordSize, entrySize}
-use Rattle.over_run.proofs.Sizes.{whole-fits}
-use Rattle.pass.proofs.last_stamp.Statement.{statement}
-use Rattle.pass.proofs.last_stamp.Tie as tie
+use Rattle.runs.proofs.Sizes.{whole-fits}
+use Rattle.asked.proofs.last_stamp.Statement.{statement}
+use Rattle.asked.proofs.last_stamp.Tie as tie
 
 -- the last entry in use lies within the journal
 abbrev at : tie.Start → ℕ

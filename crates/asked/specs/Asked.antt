@@ -4,9 +4,8 @@ use mathlib.Core.Logic.{_≢_, _⊎_}
 use mathlib.Core.List.{List}
 use Prim.Native.Nat.{ℕ, _%_, _≤_, _<_}
 use lib.ListN.{length}
-use Rattle.record.specs.Layout.{recordSize, imageLimit}
-use Rattle.over_run.specs.Whole.{recordsIn}
-use Rattle.pass.specs.Pass.{Pass, State, roomIn, lastStamp}
+use Rattle.record.specs.Layout.{recordSize, imageLimit, recordsIn}
+use Rattle.asked.specs.Pass.{Pass, State, roomIn, lastStamp}
 
 -- an image: records and nothing else, and not too many of them
 pub record Image (d : ℕ) (image : List ℕ) : Type 0 where
