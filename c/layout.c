@@ -63,6 +63,10 @@ int main(void) {
     FIELD(PassAnswer, told);
     FIELD(PassAnswer, used);
     FIELD(PassAnswer, tally);
+    STRUCT(PutBack);
+    FIELD(PutBack, number);
+    FIELD(PutBack, told);
+    FIELD(PutBack, count);
     STRUCT(Sheet);
     FIELD(Sheet, device);
     FIELD(Sheet, station);

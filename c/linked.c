@@ -178,6 +178,111 @@ static void passes_in_one_journal(void) {
                is_filled(journal + JOURNAL, GUARD, 0xEE));
 }
 
+static int same_back(DeskPutBack a, size_t number, size_t count) {
+    return a.number == number && a.told == 0 && a.count == count;
+}
+
+/*
+ * Two entries in use: record 0 was read as A4 with 27 and record 1 as A5 with 26, both were left as A5 with 27. Their
+ * stamps, verdicts, places and syndromes are no pass's. The memory is such that it can only be read.
+ */
+static const uint8_t two_entries[2 * DESK_ENTRY] = {
+    9, 9, 9, 9, 0, 0, 99, 77, 88, 66, 0xA4, 0, 0, 0, 0, 0, 0, 0, 27, 0, 0xA5, 0, 0, 0, 0, 0, 0, 0, 27, 0,
+    8, 8, 8, 8, 1, 0, 0, 0, 255, 255, 0xA5, 0, 0, 0, 0, 0, 0, 0, 26, 0, 0xA5, 0, 0, 0, 0, 0, 0, 0, 27, 0};
+
+/*
+ * Whether a put-back of these two entries over an image of two records, with guards about it, answers this and leaves
+ * these data and check bits.
+ */
+static int puts_back(const uint64_t data[2], const uint16_t check[2], size_t number, size_t count,
+                     const uint64_t left[2], const uint16_t left_check[2]) {
+    enum { GUARD = 64, IMAGE = 2 * DESK_RECORD };
+    uint8_t lent[GUARD + IMAGE + GUARD], expected[GUARD + IMAGE + GUARD];
+    memset(lent, 0xEE, sizeof lent);
+    memset(expected, 0xEE, sizeof expected);
+    for (size_t i = 0; i < 2; i++) {
+        put_record(lent + GUARD + DESK_RECORD * i, data[i], check[i]);
+        put_record(expected + GUARD + DESK_RECORD * i, left[i], left_check[i]);
+    }
+    DeskPutBack a = desk_put_back(lent + GUARD, IMAGE, two_entries, sizeof two_entries, 2);
+    return same_back(a, number, count) && memcmp(lent, expected, sizeof lent) == 0;
+}
+
+static void back_fields(void) {
+    static const uint64_t sound[] = {0xA5, 0xA5}, read[] = {0xA4, 0xA5};
+    static const uint16_t clean[] = {27, 27}, read_check[] = {27, 26};
+    expect("desk_put_back: every field, and the journal is only read",
+           puts_back(sound, clean, DESK_DONE, 2, read, read_check));
+    static const uint64_t other[] = {0xA7, 0xA5};
+    expect("desk_put_back: 18, and the entry already put back stays",
+           puts_back(other, clean, DESK_MISMATCH, 1, other, read_check));
+    static const uint64_t spoilt[] = {0xA5, 0xA7};
+    expect("desk_put_back: 18 at the last entry, and the first is not reached",
+           puts_back(spoilt, clean, DESK_MISMATCH, 0, spoilt, clean));
+    expect("desk_put_back: the bytes as read do not match",
+           puts_back(read, read_check, DESK_MISMATCH, 0, read, read_check));
+    uint8_t image[DESK_RECORD];
+    put_record(image, 0xA5, 27);
+    expect("desk_put_back: 18 for a record outside the image",
+           same_back(desk_put_back(image, sizeof image, two_entries, sizeof two_entries, 2), DESK_MISMATCH, 0) &&
+               image[0] == 0xA5);
+    expect("desk_put_back: entries past those in use are not looked at",
+           same_back(desk_put_back(image, sizeof image, two_entries, sizeof two_entries, 1), DESK_DONE, 1) &&
+               image[0] == 0xA4);
+    expect("desk_put_back: none in use, and no buffer at all",
+           same_back(desk_put_back(NULL, 0, NULL, 0, 0), DESK_DONE, 0));
+}
+
+/* Whether a put-back is refused by this number with the image as it was. */
+static int back_stays(size_t length, size_t room, size_t used, size_t number) {
+    static uint8_t image[DESK_IMAGE + DESK_RECORD];
+    memset(image, 0xEE, sizeof image);
+    DeskPutBack a = desk_put_back(image, length, two_entries, room, used);
+    return same_back(a, number, 0) && is_filled(image, sizeof image, 0xEE);
+}
+
+static void back_refusals(void) {
+    expect("desk_put_back: refused by 12",
+           back_stays(19, 60, 2, DESK_IMAGE_LENGTH) && back_stays(21, 60, 0, DESK_IMAGE_LENGTH) &&
+               back_stays(DESK_IMAGE + DESK_RECORD, 60, 2, DESK_IMAGE_LENGTH));
+    expect("desk_put_back: 12 before 17", back_stays(19, 60, SIZE_MAX, DESK_IMAGE_LENGTH));
+    expect("desk_put_back: refused by 17",
+           back_stays(20, 60, 3, DESK_COUNT_IN_USE) && back_stays(20, 59, 2, DESK_COUNT_IN_USE) &&
+               back_stays(0, 0, 1, DESK_COUNT_IN_USE));
+    expect("desk_put_back: a count that no journal has",
+           back_stays(20, 60, SIZE_MAX, DESK_COUNT_IN_USE) &&
+               back_stays(20, 60, (size_t)1 << 32, DESK_COUNT_IN_USE));
+    expect("desk_put_back: the longest image is judged", back_stays(DESK_IMAGE, 60, 2, DESK_MISMATCH));
+}
+
+/* Three passes under two codes over runs that overlap, put back; and passed again. */
+static void back_after_passes(void) {
+    static const uint16_t others[] = {13, 14, 19, 21, 22, 25, 26, 28};
+    const DeskCode codes[] = {sample(), code_of(others, 8, 5), sample()};
+    enum { IMAGE = 21 * DESK_RECORD, JOURNAL = 63 * DESK_ENTRY };
+    uint8_t image[IMAGE], first[IMAGE], mended[IMAGE], journal[JOURNAL], noted[JOURNAL];
+    put_every_verdict(image);
+    memcpy(first, image, IMAGE);
+    memset(journal, 0xEE, JOURNAL);
+    size_t used = 0;
+    for (size_t i = 0; i < 3; i++) {
+        used = desk_pass(codes[i], image, IMAGE, 5 * i, 11 + 5 * i, journal, JOURNAL, used, (uint32_t)i).used;
+    }
+    memcpy(mended, image, IMAGE);
+    memcpy(noted, journal, JOURNAL);
+    expect("desk_put_back: passes leave another image", used > 20 && memcmp(image, first, IMAGE) != 0);
+    DeskPutBack a = desk_put_back(image, IMAGE, journal, JOURNAL, used);
+    expect("desk_put_back: the image before the first pass",
+           same_back(a, DESK_DONE, used) && memcmp(image, first, IMAGE) == 0);
+    expect("desk_put_back: the journal stays", memcmp(journal, noted, JOURNAL) == 0);
+    size_t again = 0;
+    for (size_t i = 0; i < 3; i++) {
+        again = desk_pass(codes[i], image, IMAGE, 5 * i, 11 + 5 * i, journal, JOURNAL, again, (uint32_t)i).used;
+    }
+    expect("desk_put_back: passed again, the same image and entries",
+           again == used && memcmp(image, mended, IMAGE) == 0 && memcmp(journal, noted, JOURNAL) == 0);
+}
+
 /* Whether a list is refused by this number with the buffer as it was. */
 static int list_stays(DeskCode code, uint64_t data, size_t limit, size_t room, size_t number) {
     uint8_t list[DESK_LONGEST_LIST];
@@ -379,6 +484,9 @@ int main(void) {
     longest_list();
     pass_fields();
     passes_in_one_journal();
+    back_fields();
+    back_refusals();
+    back_after_passes();
     longest_image();
     refusals_leave_buffers();
     sheet_fields();

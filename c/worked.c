@@ -126,6 +126,11 @@ static void ask_pass(size_t start, size_t end, size_t room, size_t used, uint32_
     printf(" %d %d %d %d %d %d", t.clean, t.data, t.check, t.even, t.odd, t.stray);
 }
 
+static void ask_back(size_t room, size_t used) {
+    DeskPutBack a = desk_put_back(image, image_length, journal, room, used);
+    printf(" %zu %zu %zu", a.number, a.told, a.count);
+}
+
 /* Prints what is answered to the question before a line's `=`. */
 static void ask(const char *line) {
     size_t a, b, c, used;
@@ -158,6 +163,8 @@ static void ask(const char *line) {
         printf(" %zu %zu %zu %zu", answer.number, answer.told, answer.card, answer.mask);
     } else if (sscanf(line, "pass %zu %zu %zu %zu %" SCNu32, &a, &b, &c, &used, &stamp) == 5 && c <= sizeof journal) {
         ask_pass(a, b, c, used, stamp);
+    } else if (sscanf(line, "back %zu %zu", &a, &used) == 2 && a <= sizeof journal) {
+        ask_back(a, used);
     } else if (strcmp(line, "left ") == 0) {
         print_bytes(" %02X", image, image_length);
     } else if (strcmp(line, "noted ") == 0) {

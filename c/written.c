@@ -21,6 +21,8 @@ void desk_explain(void *answer, Code code, uint64_t data, uint16_t check, size_t
 void desk_cards(void *answer, Code code, size_t b);
 void desk_pass(void *answer, Code code, uint8_t *image, size_t image_length, size_t start, size_t end, uint8_t *journal,
                size_t journal_length, size_t used, uint32_t stamp);
+void desk_put_back(void *answer, uint8_t *image, size_t image_length, const uint8_t *journal, size_t journal_length,
+                   size_t used);
 void desk_sheet_ceiling(void *answer, double hours, size_t devices, size_t words, size_t mended, double high);
 void desk_sheet_band(void *answer, double hours, size_t devices, size_t words, size_t mended, double low, double high);
 void desk_sheet_open(void *answer, double hours, size_t devices, size_t words, size_t mended);
@@ -44,6 +46,13 @@ static void pass_to(void *answer) {
     uint8_t image[20] = {0xA4, 0, 0, 0, 0, 0, 0, 0, 27, 0, 0xA6, 0, 0, 0, 0, 0, 0, 0, 27, 0};
     uint8_t journal[3 * 30] = {0};
     desk_pass(answer, sample, image, sizeof image, 0, 2, journal, sizeof journal, 1, 0x04030201);
+}
+
+/* One entry of two is put back, and the other does not match. */
+static void put_back_to(void *answer) {
+    uint8_t image[20] = {7, 0, 0, 0, 0, 0, 0, 0, 0, 0, 9};
+    const uint8_t journal[60] = {[34] = 1, [40] = 8, [50] = 9};
+    desk_put_back(answer, image, sizeof image, journal, sizeof journal, 2);
 }
 
 static void ceiling_to(void *answer) { desk_sheet_ceiling(answer, 667, 8192, 4, 1, 0.5); }
@@ -87,6 +96,7 @@ int main(void) {
     expect("desk_explain writes all 24 bytes of its answer, and no other", writes_only(explain_to, 0, 24, 24));
     expect("desk_cards writes all 32 bytes of its answer, and no other", writes_only(cards_to, 0, 32, 32));
     expect("desk_pass writes 36 bytes of its 40, and no other", writes_only(pass_to, 0, 36, 40));
+    expect("desk_put_back writes all 24 bytes of its answer, and no other", writes_only(put_back_to, 0, 24, 24));
     expect("desk_sheet_ceiling writes its fields, and no other", writes_sheet(ceiling_to));
     expect("desk_sheet_band writes its fields, and no other", writes_sheet(band_to));
     expect("desk_sheet_open writes its fields where it refuses too, and no other", writes_sheet(open_to));

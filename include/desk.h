@@ -6,14 +6,17 @@
  * by every call that has one.
  *
  * Answers. `number` is 0 (done) or the number of the refusal, and `told` is what goes with that number in the table
- * below, else 0. Number 9 tells two values, in fields of their own. DeskCheckBits and DeskMade tell nothing, and have no
- * `told`. A refusal has 0 in every other field, so `yes` is false, and changes no byte that was lent. Answers have
- * padding, whose bytes may be anything: compare fields, and not the whole by memcmp.
+ * below, else 0. Numbers 9 and 18 tell in fields of their own: card and mask, and count. DeskCheckBits and DeskMade tell
+ * nothing, and have no `told`. A refusal has 0 in every other field, so `yes` is false, and changes no byte that was lent;
+ * 18 alone leaves what desk_put_back put back before it. Answers have padding, whose bytes may be anything: compare
+ * fields, and not the whole by memcmp.
  *
  * What is counted. `list_length`, `image_length` and `journal_length` are bytes. Nothing else is:
  *   start, end  records, from the image's first; the record at `end` is not in the run
  *   length      entries of the list, two bytes each
- *   used        entries of the journal, DESK_ENTRY bytes each: those in use before a pass, and in its answer those after it
+ *   used        entries of the journal, DESK_ENTRY bytes each: those in use before a call, and in a pass's answer those
+ *               after it
+ *   count       entries of the journal: those that were put back
  *   told        with 3 to 6 and 21 a place, with 10 entries of the list, with 13 entries of the journal
  *
  * Time. A pass's stamp is any number that does not fall along a journal; what it counts is the caller's affair.
@@ -22,11 +25,12 @@
  *
  * Figures. `hours`, and `device` and `station` of a sheet, are hours. `share`, `low` and `high` are parts of 1.
  *
- * Lent buffers. Each must be valid for its length, to read and to write. Those that one call is lent must not overlap:
- * not image and journal, nor any other two. What happens if they do is unspecified. With length 0 nothing is read or
- * written, and any pointer will do, NULL too.
+ * Lent buffers. Each must be valid for its length, to read and to write; one behind a pointer to const is only read. Those
+ * that one call is lent must not overlap: not image and journal, nor any other two. What happens if they do is
+ * unspecified. With length 0 nothing is read or written, and any pointer will do, NULL too.
  *
- * Threads. Calls share no state: any number may run at once, on any thread, if no byte is lent to two of them.
+ * Threads. Calls share no state: any number may run at once, on any thread, if no byte is lent to two of them. A byte that
+ * is lent to be read alone may be lent so to several.
  */
 #ifndef DESK_H
 #define DESK_H
@@ -75,6 +79,8 @@ enum DeskNumber {
     DESK_COLUMN_ROOM = 15,    /* making a code: k is over 2^(r-1) - r */
     DESK_STAMP = 16,          /* the pass's stamp is below the last used entry's */
     DESK_COUNT_IN_USE = 17,   /* the count of entries in use is over the journal's room */
+    DESK_MISMATCH = 18,       /* putting back: an entry's record number lies outside the image, or that record does not
+                                 hold the entry's bytes as left; told: entries put back */
     DESK_SHEET = 19,          /* device count 0 or over 65,535, word count 0 or over 65,535, mended above words, hours
                                  not finite or not above zero, a limit's figure not finite or below zero, a band upside
                                  down */
@@ -193,6 +199,16 @@ typedef struct DeskPassAnswer {
     DeskTally tally;
 } DeskPassAnswer;
 
+/*
+ * The answer of desk_put_back: how many entries were put back. Done, it is all that are in use; with number 18 it is those
+ * behind the entry that does not match, which is the entry `used - 1 - count`; with 12 and 17 it is 0.
+ */
+typedef struct DeskPutBack {
+    size_t number;
+    size_t told;
+    size_t count;
+} DeskPutBack;
+
 /* A station sheet. Hours per station may be 0: the quotient is rounded once, to the nearest double. */
 typedef struct DeskSheet {
     double device;  /* hours per device, as given */
@@ -274,6 +290,17 @@ DeskCardCheck desk_cards(DeskCode code, size_t b);
  */
 DeskPassAnswer desk_pass(DeskCode code, uint8_t *image, size_t image_length, size_t start, size_t end, uint8_t *journal,
                          size_t journal_length, size_t used, uint32_t stamp);
+
+/*
+ * Puts an image back as it was read: from the last of the `used` entries that the journal has in use to the first, a record
+ * that holds an entry's bytes as left gets its bytes as read; refuses with 12, 17, then 18 at the first entry that does not
+ * match. After 18 the entries already put back stay, and nothing else is touched: not that entry's record, nor any entry
+ * before it. No code is needed. Of an entry the record number and the bytes as left are compared, and nothing else of it is
+ * judged; one whose bytes as read and as left are the same counts as put back where they match. The journal is only read.
+ * After passes from a new journal, each told the true count in use, the image is as it was before the first of them.
+ */
+DeskPutBack desk_put_back(uint8_t *image, size_t image_length, const uint8_t *journal, size_t journal_length,
+                          size_t used);
 
 /*
  * The sheet of a station from its hours per device and the counts of its devices, of its words and of those mended. It

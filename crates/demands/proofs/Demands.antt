@@ -10,6 +10,7 @@ use Rattle.demands.proofs.OfPasses as passes
 use Rattle.demands.proofs.OfSheets as sheets
 use Rattle.demands.proofs.OfMaking as making
 use Rattle.demands.proofs.OfBytes as bytes
+use Rattle.demands.proofs.OfPutBack as back
 
 pub sizes : demands.Sizes
 sizes = tallies.sizes
@@ -248,3 +249,20 @@ byte-one = bytes.byte-one
 
 pub byte-two : demands.ByteTwo
 byte-two = bytes.byte-two
+
+-- ---- putting back
+
+pub put-back-refuses : demands.PutBackRefuses
+put-back-refuses = back.put-back-refuses
+
+pub put-back-exactly : demands.PutBackExactly
+put-back-exactly = back.put-back-exactly
+
+pub put-back-others : demands.PutBackOthers
+put-back-others = back.put-back-others
+
+pub put-back-restores : demands.PutBackRestores
+put-back-restores = back.put-back-restores
+
+pub passed-again : demands.PassedAgain
+passed-again = back.passed-again

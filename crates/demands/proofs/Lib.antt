@@ -10,4 +10,5 @@ pub mod OfTallies
 pub mod OfPasses
 pub mod OfSheets
 pub mod OfBytes
+pub mod OfPutBack
 pub mod Demands

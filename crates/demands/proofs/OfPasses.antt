@@ -334,18 +334,18 @@ pass-applied code p s small done =
 -- ---- stamps
 
 -- a refused code tells a number
-known : (code : Code) → stamps.Known (openedOf code)
+pub known : (code : Code) → stamps.Known (openedOf code)
 known code g e z =
     refused-no-acceptance (sym e ∙ standing-accepted code (ap (λ (x : Standing). judgementBy x .number) e ∙ z))
 
-abbrev step-of : Turn → Step
+abbrev pub step-of : Turn → Step
 step-of x = record { under = openedOf (x .code); pass = x .pass }
 
-abbrev steps-of : List Turn → List Step
+abbrev pub steps-of : List Turn → List Step
 steps-of [] = []
 steps-of (x ∷ xs) = step-of x ∷ steps-of xs
 
-same-after : (xs : List Turn) (s : State) → turnsAfter xs s ≡ stepsAfter dataSize (steps-of xs) s
+pub same-after : (xs : List Turn) (s : State) → turnsAfter xs s ≡ stepsAfter dataSize (steps-of xs) s
 unfolding turnsAfter stepsAfter
 same-after [] s = refl
 same-after (x ∷ xs) s = same-after xs (words.stateAfter (x .code) (x .pass) s)

@@ -2,7 +2,7 @@
 -- and words are document 01's. Definitions.antt beside this page has the words used here, crate desk's Answers.antt what each function
 -- answers. In order: records and entries; the code; writing and reading one word; explanations; cards; the tally; the pass;
 -- station sheets (02's request 107; their words in Sheets.antt); making a code (02's request 101; its words in Making.antt); words of ten
--- bytes (02's request 114; theirs in Bytes.antt). Assumes nothing.
+-- bytes (02's request 114; theirs in Bytes.antt); putting back (02's request 104; its words in PutBack.antt). Assumes nothing.
 use mathlib.Core.Path.{_≡_}
 use mathlib.Core.Logic.{_≢_, _⊎_, _↔_}
 use mathlib.Core.Bool.{true, false, cond}
@@ -55,6 +55,7 @@ use Rattle.least.specs.Order.{Before}
 use Rattle.desk.specs.Answers.{madeOf}
 use Rattle.demands.specs.Making.{IsMade, noCode}
 use Rattle.demands.specs.Bytes.{IsByte, Pattern, handing}
+use Rattle.demands.specs.PutBack.{answerBack, imageBack, backWith, fromLast, lastBack, LastMatch, StopsAt}
 
 -- ---- records and entries
 
@@ -701,3 +702,45 @@ ByteTwo =
     (d s t u v : ℕ) → d < 2 ^ 21 → IsByte s → IsByte t → s ≢ t → Pattern u → Pattern v
     → let w = damaged (damaged (byteWritten d .word) s u) t v in
     byteRead w ≡ handing 3 255 w
+
+-- ---- putting back
+
+-- Refused by 12, and by 17 after it: nothing is put back, and no byte of the image is changed.
+abbrev pub PutBackRefuses : Type 0
+PutBackRefuses =
+    (s : State)
+    → (NoImage dataSize (s .image) → (answerBack s ≡ backWith 12 0) × (imageBack s ≡ s .image))
+    × (Image dataSize (s .image) → room (s .journal) < s .used → (answerBack s ≡ backWith 17 0) × (imageBack s ≡ s .image))
+
+-- Otherwise it is done, exactly when each entry in use matches where those behind it are put back; or it answers 18, exactly at the first
+-- from the last that does not. As many as are told are put back, one after the other from the last.
+abbrev pub PutBackExactly : Type 0
+PutBackExactly =
+    (s : State) → Image dataSize (s .image) → s .used ≤ room (s .journal)
+    → ((answerBack s ≡ backWith 0 (s .used)) ⊎ ((m : ℕ) × (answerBack s ≡ backWith 18 m)))
+    × ((answerBack s ≡ backWith 0 (s .used)) ↔ LastMatch s (s .used))
+    × ((m : ℕ) → (answerBack s ≡ backWith 18 m) ↔ StopsAt s m)
+    × (imageBack s ≡ lastBack s (answerBack s .count))
+
+-- A record that none of the entries put back names is as it was, done or stopped.
+abbrev pub PutBackOthers : Type 0
+PutBackOthers =
+    (s : State) → Image dataSize (s .image) → s .used ≤ room (s .journal)
+    → (length (imageBack s) ≡ length (s .image))
+    × ((i : ℕ) → ((m : ℕ) → m < answerBack s .count → fromLast s m .number ≢ i) → recordOf (imageBack s) i ≡ recordOf (s .image) i)
+
+-- THE PROMISE: after any passes from an empty journal, each under a code of its own and told the true count in use, refused passes among
+-- them, the put-back restores the first image byte for byte; where that is an image, every entry in use is put back.
+abbrev pub PutBackRestores : Type 0
+PutBackRestores =
+    (turns : List Turn) (s : State) → s .used ≡ 0
+    → let t = turnsAfter turns s in
+    (imageBack t ≡ s .image) × (Image dataSize (s .image) → answerBack t ≡ backWith 0 (t .used))
+
+-- The same passes again from there, with any journal as long as the first, leave the same image and the same entries.
+abbrev pub PassedAgain : Type 0
+PassedAgain =
+    (turns : List Turn) (s : State) → s .used ≡ 0 → (journal : List ℕ) → length journal ≡ length (s .journal)
+    → let t = turnsAfter turns s in
+    let u = turnsAfter turns (stateOf (imageBack t) journal 0) in
+    (u .image ≡ t .image) × (u .used ≡ t .used) × ((m : ℕ) → m < t .used → entryAt (u .journal) m ≡ entryAt (t .journal) m)

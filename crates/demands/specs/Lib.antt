@@ -2,4 +2,5 @@ pub mod Definitions
 pub mod Sheets
 pub mod Making
 pub mod Bytes
+pub mod PutBack
 pub mod Demands

@@ -21,6 +21,8 @@ use Rattle.cards.specs.declared.CardCheck.{CardCheck}
 use Rattle.cards.specs.Checking.{cardedOf}
 use Rattle.asked.specs.Pass.{Pass, State}
 use Rattle.pass.specs.Pass.{After, afterPass}
+use Rattle.put_back.specs.Back.{Returned}
+use Rattle.put_back.specs.Back as backwards
 use Rattle.sheet.specs.declared.SheetAnswer.{SheetAnswer}
 use Rattle.sheet.specs.declared.Limit.the-variants.{Ceiling, Band, Open}
 use Rattle.sheet.specs.Sheets.{asked, sheetOf}
@@ -76,6 +78,10 @@ cardsOf code b = cardedOf (openedOf code) b
 -- over a run, with a stamp, of an image, into a journal behind its entries in use: the answer, and image and journal afterwards
 abbrev pub passedOf : Code → Pass → State → After
 passedOf code p s = afterPass (openedOf code) dataSize p s
+
+-- the entries in use of a journal put back: the answer, and the image afterwards
+abbrev pub putBackOf : List ℕ → List ℕ → ℕ → Returned
+putBackOf image journal used = backwards.putBackOf dataSize image journal used
 
 -- a station's sheet: a function for each kind of limit
 abbrev pub ceilingSheet : Float → ℕ → ℕ → ℕ → Float → SheetAnswer

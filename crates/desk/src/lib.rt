@@ -5,6 +5,7 @@ ghost use Rattle.desk.specs.Answers.{version, checkBitsOf, judgementOf, 
 ghost use Rattle.desk.specs.Answers.{ceilingSheet, bandSheet, openSheet};
 ghost use Rattle.desk.specs.Answers.{madeOf};
 ghost use Rattle.desk.specs.Answers.{byteWritten, byteRead};
+ghost use Rattle.desk.specs.Answers.{putBackOf};
 use balance::RowBalance;
 use byte_code::ByteReading;
 use byte_code::ByteWriting;
@@ -14,6 +15,7 @@ use code::Refusal;
 use explain::Listing;
 use make::Made;
 use pass::PassAnswer;
+use put_back::PutBack;
 use record::DATA;
 use sheet::Limit;
 use sheet::SheetAnswer;
@@ -153,6 +155,16 @@ pub extern "C" fn desk_pass(
         used,
         stamp,
     )
+}
+
+// The put-back: from the last of the `used` entries of a journal to the first, a record that holds an entry's bytes as left gets its bytes as
+// read. How many entries were put back; 18 where one does not match, and those behind it stay put back.
+#[no_mangle]
+pub extern "C" fn desk_put_back(image: &mut [u8], journal: &[u8], used: usize) -> PutBack
+    ensures { λ a. ⌜ a ≡ putBackOf (now (image .entry)) (now (journal .entry)) used .answer ⌝ }
+    ensures { λ _. ⌜ now (image .exit) ≡ putBackOf (now (image .entry)) (now (journal .entry)) used .image ⌝ }
+{
+    put_back::put_back(DATA, image, journal, used)
 }
 
 // A station's sheet, judged against a ceiling: the number, yes or no, and the three figures.

@@ -36,7 +36,7 @@ applied-append d [] fs image = refl
 applied-append d (e ∷ es) fs image = applied-append d es fs (applied d e image)
 
 -- a record put in its own place
-put-same : (size : ℕ) (image : List ℕ) (n : ℕ) → putRecord size image n (recordAt size image n) ≡ image
+pub put-same : (size : ℕ) (image : List ℕ) (n : ℕ) → putRecord size image n (recordAt size image n) ≡ image
 put-same size image n =
     ap (λ m. take (n * size) image ++ (recordAt size image n ++ drop m image)) (suc-mul n size)
     ∙ ap (λ l. take (n * size) image ++ (recordAt size image n ++ l)) (sym (drop-drop size (n * size) image))
@@ -80,6 +80,17 @@ module _ (f : Reader) (stamp : ℕ) (image : List ℕ) (a : ℕ) where
           → putRecord size now b (leftOf f (recordAt size now b)) ≡ appliedAll d (cond c [] (entryOf f stamp b rec ∷ [])) now
       go true h = ap (putRecord size now b) (clean-kept f (recordAt size now b) (ap (verdictOf f) e ∙ eqb-true _ _ h)) ∙ put-same size now b
       go false h = ap (λ l. putRecord size now b (leftOf f l)) e
+
+  -- up to the record b, and that one too
+  pub left-here : (b : ℕ) → a ≤ b → b * size ≤ length image → recordAt size (leftRun f image a b) b ≡ recordAt size image b
+  left-here b h fit = ap (take size) (after-stays size left left-each image a b h fit)
+
+  pub left-step : (b : ℕ) → a ≤ b → suc b * size ≤ length image
+      → leftRun f image a (suc b) ≡ putRecord size (leftRun f image a b) b (leftOf f (recordAt size image b))
+  left-step b h fit =
+      sym (run-split size image a b (suc b) h (omega arith) left left-each fit)
+      ∙ one-run size left (leftRun f image a b) b
+      ∙ ap (λ l. putRecord size (leftRun f image a b) b (leftOf f l)) (left-here b h (omega (arith, suc-mul b size)))
 
   left-is : (n : ℕ) → (a + n) * size ≤ length image → leftRun f image a (a + n) ≡ appliedAll d (entries n) image
   unfolding gather appliedAll

@@ -74,6 +74,18 @@ head-said d e n y = (
   ap numberOf (syndrome-next e) ∙ number-bytes syndromeSize (e .syndrome) y,
 )
 
+-- what it says of a record: its number, and its bytes before and after
+pub record-said : (d : ℕ) (e : Entry) → e .number < byteSpan numberSize → length (e .before) ≡ recordSize d
+    → length (e .after) ≡ recordSize d
+    → (entryIn d (entryBytes e) .number ≡ e .number)
+    × (entryIn d (entryBytes e) .before ≡ e .before)
+    × (entryIn d (entryBytes e) .after ≡ e .after)
+record-said d e n b a = (
+  ap numberOf (number-next e) ∙ number-bytes numberSize (e .number) n,
+  ap (take (recordSize d)) (records-behind e) ∙ take-at (e .before) (e .after) (recordSize d) b,
+  ap (take (recordSize d)) (after-behind e (recordSize d) b) ∙ take-all (recordSize d) (e .after) (omega arith),
+)
+
 -- and its stamp, as four bytes say it
 pub stamp-said : (d : ℕ) (e : Entry) → entryIn d (entryBytes e) .stamp ≡ numberOf (bytesOf stampSize (e .stamp))
 stamp-said d e = ap numberOf (stamp-first e)

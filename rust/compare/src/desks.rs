@@ -3,7 +3,7 @@
 use crate::program;
 use desk::{ffi, Word};
 use second::{Balanced, CardsChecked, Code, Desk, Explained, Judged, Passed, Reading, Refusal, Wanted, Written};
-use second::{ByteRead, ByteWritten, Limit, Made, Pass, Sheeted, Station};
+use second::{ByteRead, ByteWritten, Limit, Made, Pass, PutBack, Sheeted, Station};
 
 /// The same code for the linked desk.
 fn linked(code: &Code) -> desk::Code {
@@ -75,6 +75,11 @@ impl Desk for Archive {
         let answer = ffi::pass(&linked(code), image, start, end, journal, used, stamp);
         let ffi::PassAnswer { number, told, used, tally } = answer;
         Passed { number, told, used, tally: counts(tally) }
+    }
+
+    fn put_back(&self, image: &mut [u8], journal: &mut [u8], used: usize) -> PutBack {
+        let ffi::PutBack { number, told, count } = ffi::put_back(image, journal, used);
+        PutBack { number, told, count }
     }
 
     fn sheet(&self, asked: &Station) -> Sheeted {
@@ -174,6 +179,14 @@ impl Desk for Wrapper {
             |passed: desk::Passed| Passed { used: passed.used, tally: counts(passed.tally), ..Passed::default() };
         let answer = linked(code).pass(image, start..end, journal, used, stamp);
         answer.map_or_else(|refusal| refused(refusal).into(), done)
+    }
+
+    fn put_back(&self, image: &mut [u8], journal: &mut [u8], used: usize) -> PutBack {
+        match desk::put_back(image, journal, used) {
+            Ok(count) => PutBack { count, ..PutBack::default() },
+            Err(desk::Refusal::Mismatch { count }) => PutBack { number: 18, told: 0, count },
+            Err(refusal) => refused(refusal).into(),
+        }
     }
 
     fn sheet(&self, asked: &Station) -> Sheeted {

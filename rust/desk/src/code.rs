@@ -195,7 +195,7 @@ impl Code {
     /// ```
     pub fn card_check(&self, b: usize) -> Result<(), Refusal> {
         let ffi::CardCheck { number, told, card, mask } = ffi::cards(self, b);
-        Refusal::of(Plain { number, told, card, mask }).map_or(Ok(()), Err)
+        Refusal::of(Plain { number, told, card, mask, ..Plain::default() }).map_or(Ok(()), Err)
     }
 
     /// Passes over a run of the image's records, mends those with one flip, and notes each that is not clean.

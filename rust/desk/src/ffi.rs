@@ -2,7 +2,8 @@
 //!
 //! `include/desk.h` says the same for C. In every answer `number` is 0 (done) or the number of the refusal, and `told`
 //! is what [`Refusal`](crate::Refusal) has with that number, else 0. A refusal has 0 in every other field (9 has its card
-//! and mask, and 19 says no) and changes no byte that was lent. Calls share no state, and may run on any thread.
+//! and mask, 18 its count, and 19 says no) and changes no byte that was lent; after 18 alone what was put back before it
+//! stays. Calls share no state, and may run on any thread.
 //!
 //! This is the only module with `unsafe`.
 #![allow(unsafe_code)]
@@ -145,6 +146,18 @@ pub struct PassAnswer {
     pub tally: Tally,
 }
 
+/// The answer of [`put_back`].
+#[repr(C)]
+#[derive(Clone, Copy, PartialEq, Eq, Debug, Default)]
+pub struct PutBack {
+    /// 0, or the number of the refusal.
+    pub number: usize,
+    /// What goes with the number: 0.
+    pub told: usize,
+    /// The entries put back: done, all that are in use; with number 18, those behind the one that does not match.
+    pub count: usize,
+}
+
 /// A station sheet.
 #[repr(C)]
 #[derive(Clone, Copy, PartialEq, Debug, Default)]
@@ -248,6 +261,13 @@ extern "C" {
         used: usize,
         stamp: u32,
     ) -> PassAnswer;
+    fn desk_put_back(
+        image: *mut u8,
+        image_length: usize,
+        journal: *const u8,
+        journal_length: usize,
+        used: usize,
+    ) -> PutBack;
     fn desk_sheet_ceiling(hours: f64, devices: usize, words: usize, mended: usize, high: f64) -> SheetAnswer;
     fn desk_sheet_band(hours: f64, devices: usize, words: usize, mended: usize, low: f64, high: f64) -> SheetAnswer;
     fn desk_sheet_open(hours: f64, devices: usize, words: usize, mended: usize) -> SheetAnswer;
@@ -259,8 +279,9 @@ extern "C" {
 /// Asks the archive, once it is known to be of this crate's version.
 ///
 /// Why this is safe: the declarations are those of that version; each function is total and asks nothing of its numbers,
-/// nor of a float's bits; a lent slice is live, its length is its own, and two slices lent at once are apart because both
-/// are `&mut`; `yes` is a `bool` in the archive too.
+/// nor of a float's bits; a lent slice is live, its length is its own, and two slices lent at once are apart because one
+/// at least is `&mut`; the archive reads what is lent by a pointer to const, and does not write it; `yes` is a `bool` in
+/// the archive too.
 macro_rules! ask {
     ($function:ident($($argument:expr),*)) => {{
         version::compared();
@@ -324,6 +345,12 @@ pub fn pass(
     let (image, image_length) = (image.as_mut_ptr(), image.len());
     let (journal, journal_length) = (journal.as_mut_ptr(), journal.len());
     ask!(desk_pass(*code, image, image_length, start, end, journal, journal_length, used, stamp))
+}
+
+/// From the last of the `used` entries of the journal to the first, gives a record that holds an entry's bytes as left its
+/// bytes as read; refuses with 12, 17, then 18 at the first entry that does not match.
+pub fn put_back(image: &mut [u8], journal: &[u8], used: usize) -> PutBack {
+    ask!(desk_put_back(image.as_mut_ptr(), image.len(), journal.as_ptr(), journal.len(), used))
 }
 
 /// The sheet of a station, judged against a ceiling: share ≤ `high`; refuses with 19, as the next two do.

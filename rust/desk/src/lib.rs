@@ -38,6 +38,7 @@
 
 pub mod ffi;
 
+mod back;
 mod bytes;
 mod code;
 mod refusal;
@@ -46,6 +47,7 @@ mod tally;
 mod version;
 mod word;
 
+pub use back::put_back;
 pub use bytes::{byte_read, byte_write, ByteReading, ByteVerdict};
 pub use code::check_bits_wanted;
 pub use ffi::{ByteNumber, Code, Sheet, Tally};
@@ -78,3 +80,8 @@ struct Calling;
 #[cfg(doctest)]
 #[doc = include_str!("../../../docs/CHOOSING.md")]
 struct Choosing;
+
+/// The page on disputes: its Rust block is run too.
+#[cfg(doctest)]
+#[doc = include_str!("../../../docs/DISPUTES.md")]
+struct Disputes;

@@ -11,6 +11,7 @@ pub(crate) struct Plain {
     pub told: usize,
     pub card: usize,
     pub mask: usize,
+    pub count: usize,
 }
 
 /// The enum, and all that goes by its cases. A line has the number, the case and what it tells (a field, the plain value
@@ -106,6 +107,10 @@ refusals! {
         "the pass's stamp is below the last used entry's", "the stamp is below that of the last entry in use";
     17 CountInUse,
         "the count of entries in use is over the journal's room", "more entries are in use than the journal has room for";
+    18 Mismatch { count = count "entries put back" },
+        "putting back: an entry's record number lies outside the image, or that record does not hold the entry's bytes as \
+         left",
+        "the next entry does not match the image; {count} were put back";
     19 Sheet,
         "device count 0 or over 65,535, word count 0 or over 65,535, mended above words, hours not finite or not above \
          zero, a limit's figure not finite or below zero, a band upside down",
@@ -122,7 +127,7 @@ impl Refusal {
 
     /// What is told beside the number: a place, a length or the entries needed, 0 where nothing is told.
     ///
-    /// Card and mask of [`Refusal::WeakCard`] are two values, and stand in that case alone.
+    /// Card and mask of [`Refusal::WeakCard`] and the count of [`Refusal::Mismatch`] stand in those cases alone.
     pub fn told(self) -> usize {
         self.plain().told
     }

@@ -40,6 +40,7 @@ fn rust_lays_out_every_struct_as_c_does() {
         lines!(CardCheck { number, told, card, mask } of Default::default()),
         lines!(Tally { clean, data, check, even, odd, stray } of Default::default()),
         lines!(PassAnswer { number, told, used, tally } of Default::default()),
+        lines!(PutBack { number, told, count } of Default::default()),
         lines!(Sheet { device, station, share } of Default::default()),
         lines!(SheetAnswer { number, told, yes, sheet } of Default::default()),
         lines!(Made { number, code } of Made { number: 0, code: Code { columns: [0; 64], k: 0, r: 0 } }),

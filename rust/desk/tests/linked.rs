@@ -125,6 +125,57 @@ fn passes_follow_one_another_in_one_journal() {
     assert_eq!(journal[20 * ENTRY..], [0xEE; ENTRY + 5]);
 }
 
+/// An entry of this record with a head that is no pass's.
+fn entry(number: u8, before: Vec<u8>, after: Vec<u8>) -> Vec<u8> {
+    [vec![9, 8, 7, 6, number, 0, 99, 77, 88, 66], before, after].concat()
+}
+
+#[test]
+fn a_put_back() {
+    // Record 0 was mended twice, record 1 was left as it was between.
+    let (one, two, three) = (record(0xA4, 27), record(0xA5, 27), record(0xA5, 26));
+    let entries =
+        [entry(0, one.clone(), two.clone()), entry(1, one.clone(), one.clone()), entry(0, two, three.clone())];
+    let journal = [entries.concat(), vec![0xEE; ENTRY + 5]].concat();
+    let mut image = [three.clone(), one.clone()].concat();
+    assert_eq!(put_back(&mut image, &journal, 3), PutBack { number: 0, told: 0, count: 3 });
+    assert_eq!(image, one.repeat(2));
+
+    // Entry 3 is not in use: its record lies outside the image. Without the last, record 0 does not match.
+    for (used, count) in [(4, 0), (2, 1)] {
+        let mut image = [three.clone(), one.clone()].concat();
+        assert_eq!(put_back(&mut image, &journal, used), PutBack { number: 18, told: 0, count });
+        assert_eq!(image, [three.clone(), one.clone()].concat());
+    }
+    assert_eq!(put_back(&mut [], &[], 0), PutBack::default());
+}
+
+#[test]
+fn a_put_back_that_stops_leaves_what_was_put_back() {
+    let (read, left, other) = (record(0xA4, 27), record(0xA5, 27), record(0xA7, 27));
+    let journal: Vec<u8> = (0..4).flat_map(|number| entry(number, read.clone(), left.clone())).collect();
+    let mut image = [left.clone(), other.clone(), left.clone(), left.clone()].concat();
+    assert_eq!(put_back(&mut image, &journal, 4), PutBack { number: 18, told: 0, count: 2 });
+    assert_eq!(image, [left, other, read.clone(), read].concat());
+}
+
+#[test]
+fn a_refused_put_back_leaves_the_image() {
+    let stays = |length: usize, room: usize, used: usize, number: usize| {
+        let mut image = vec![0xEE; length];
+        assert_eq!(put_back(&mut image, &[0xEE; 60][..room], used), PutBack { number, told: 0, count: 0 });
+        assert_eq!(image, vec![0xEE; length]);
+    };
+    for length in [1, 9, 11, 19, 65_529, 65_531, 65_540] {
+        stays(length, 60, 0, 12);
+        stays(length, 60, usize::MAX, 12);
+    }
+    for (room, used) in [(60, 3), (59, 2), (0, 1), (60, 1 << 32), (60, (1 << 32) + 1), (60, usize::MAX)] {
+        stays(20, room, used, 17);
+    }
+    stays(65_530, 60, 2, 18);
+}
+
 #[test]
 fn bytes_outside_the_run_stay() {
     let before = every_verdict();

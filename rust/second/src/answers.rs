@@ -1,7 +1,7 @@
 //! The answers: a number (0 done, else the table's number of the refusal), what is told, and the rest.
 //!
-//! `told` is the bad column's place for 3 to 6, the list's length for 10, the entries needed for 13. Everything that
-//! is not told is 0.
+//! `told` is the bad column's place for 3 to 6, the list's length for 10, the entries needed for 13; 9 and 18 tell in fields
+//! of their own. Everything that is not told is 0.
 
 /// Why a question is refused.
 #[derive(Clone, Copy, PartialEq, Eq, Debug)]
@@ -83,6 +83,14 @@ pub struct Passed {
     pub tally: [usize; 6],
 }
 
+#[derive(Clone, Copy, PartialEq, Eq, Debug, Default)]
+pub struct PutBack {
+    pub number: usize,
+    pub told: usize,
+    /// The entries put back, done or with number 18.
+    pub count: usize,
+}
+
 /// What an answer with a number and a told value is when the question is refused: the rest is 0.
 macro_rules! refused {
     ($($answer:ident)*) => {$(
@@ -100,4 +108,4 @@ impl From<Refusal> for Judged {
     }
 }
 
-refused!(Balanced Written Reading Explained CardsChecked Passed);
+refused!(Balanced Written Reading Explained CardsChecked Passed PutBack);

@@ -1,10 +1,10 @@
 //! The comparison: the same cases to every desk, every number and every byte of the answers.
 
-use crate::answers::{Explained, Judged, Passed, Reading, Written};
-use crate::cases::{asked_shapes, edges, edges_of_bits, Cases, ImageCase, ListCase, TurnsCase, HUGE};
-use crate::desk::Desk;
+use crate::answers::{Explained, Judged, Passed, PutBack, Reading, Written};
+use crate::cases::{asked_shapes, edges, edges_of_bits, BackCase, Cases, ImageCase, ListCase, TurnsCase, HUGE};
+use crate::desk::{Desk, Second};
 use crate::make::Made;
-use crate::pass::Pass;
+use crate::pass::{Pass, ENTRY};
 use std::collections::BTreeMap;
 use std::fmt;
 use std::time::{Duration, Instant};
@@ -20,6 +20,10 @@ pub struct Amounts {
     pub images: usize,
     /// Images over which passes follow one another in one journal.
     pub turns: usize,
+    /// Images and journals to put back with.
+    pub backs: usize,
+    /// Histories: passes from a new journal, put back, and passed again.
+    pub histories: usize,
     /// Stations from the seed; every edge is asked besides.
     pub sheets: usize,
     /// Data words, each asked with every error within one byte and within two.
@@ -39,6 +43,8 @@ impl Amounts {
         cards: 5_000,
         images: 3_000,
         turns: 1_000,
+        backs: 20_000,
+        histories: 2_000,
         sheets: 100_000,
         byte_errors: 1_000,
         byte_words: 100_000,
@@ -54,6 +60,8 @@ impl Amounts {
         cards: 0,
         images: 0,
         turns: 0,
+        backs: 0,
+        histories: 0,
         sheets: 0,
         byte_errors: 0,
         byte_words: 0,
@@ -109,30 +117,43 @@ fn ask<C: fmt::Debug, A: fmt::Debug + PartialEq>(
     answer: impl Fn(&dyn Desk, &C) -> A,
     number: impl Fn(&A) -> usize,
 ) -> Result<Line, Box<Difference>> {
+    ask_promised(question, desks, cases, |_| None, answer, number)
+}
+
+/// The same, where a document may promise what the answer is, so that desks which agree with one another can all be wrong.
+fn ask_promised<C: fmt::Debug, A: fmt::Debug + PartialEq>(
+    question: &'static str,
+    desks: &[&dyn Desk],
+    cases: impl Iterator<Item = C>,
+    promised: impl Fn(&C) -> Option<A>,
+    answer: impl Fn(&dyn Desk, &C) -> A,
+    number: impl Fn(&A) -> usize,
+) -> Result<Line, Box<Difference>> {
     let times = vec![Duration::default(); desks.len()];
     let mut line = Line { question, cases: 0, numbers: BTreeMap::new(), times };
     for case in cases {
-        let mut answers = Vec::with_capacity(desks.len());
+        let mut answers: Vec<(&str, A)> = promised(&case).map(|answer| ("the promise", answer)).into_iter().collect();
         for (desk, time) in desks.iter().zip(&mut line.times) {
             let begin = Instant::now();
-            answers.push(answer(*desk, &case));
+            answers.push((desk.name(), answer(*desk, &case)));
             *time += begin.elapsed();
         }
-        if let Some(other) = (1..answers.len()).find(|&other| answers[other] != answers[0]) {
-            let told = |at: usize| (desks[at].name(), format!("{:?}", answers[at]));
-            let case = format!("{:?}", case);
-            return Err(Box::new(Difference { question, turn: line.cases, case, answers: [told(0), told(other)] }));
+        if let Some(other) = answers.iter().find(|other| other.1 != answers[0].1) {
+            let told = |(name, answer): &(&'static str, A)| (*name, format!("{:?}", answer));
+            let (case, answers) = (format!("{:?}", case), [told(&answers[0]), told(other)]);
+            return Err(Box::new(Difference { question, turn: line.cases, case, answers }));
         }
         line.cases += 1;
-        *line.numbers.entry(number(&answers[0])).or_insert(0) += 1;
+        *line.numbers.entry(number(&answers[0].1)).or_insert(0) += 1;
     }
     Ok(line)
 }
 
-/// The first `count` cases of a stream of their own.
+/// The first `count` cases of a stream of their own; it is not begun for none.
 fn cases<C>(amounts: &Amounts, question: u64, count: usize, next: fn(&mut Cases) -> C) -> impl Iterator<Item = C> {
-    let mut cases = Cases::new(amounts.seed.wrapping_mul(1_000).wrapping_add(question));
-    (0..count).map(move |_| next(&mut cases))
+    let seed = amounts.seed.wrapping_mul(1_000).wrapping_add(question);
+    let mut cases = if count > 0 { Some(Cases::new(seed)) } else { None };
+    (0..count).filter_map(move |_| cases.as_mut().map(next))
 }
 
 /// All questions, of every desk; with one desk alone it only counts and times.
@@ -144,6 +165,8 @@ pub fn compare(desks: &[&dyn Desk], amounts: &Amounts) -> Result<Vec<Line>, Box<
     let cards = cases(amounts, 4, amounts.cards, Cases::card);
     let images = cases(amounts, 5, amounts.images, Cases::image);
     let turns = cases(amounts, 8, amounts.turns, Cases::turns);
+    let backs = cases(amounts, 12, amounts.backs, Cases::back);
+    let histories = cases(amounts, 13, amounts.histories, Cases::history);
     let stations = edges().into_iter().chain(cases(amounts, 7, amounts.sheets, Cases::station));
     let byte_data = edges_of_bits().chain(cases(amounts, 9, amounts.byte_words, Cases::byte_data));
     let byte_errors = cases(amounts, 10, amounts.byte_errors, Cases::byte_errors).flatten();
@@ -159,6 +182,8 @@ pub fn compare(desks: &[&dyn Desk], amounts: &Amounts) -> Result<Vec<Line>, Box<
         ask("card check", desks, cards, |d, c| d.card_check(&c.code, c.b), |a| a.number)?,
         ask("pass", desks, images, passed, |a| a.0.number)?,
         ask("passes", desks, turns, passed_in_turn, |a| a.0.last().map_or(0, |last| last.number))?,
+        ask("put back", desks, backs, put_back, |a| a.0.number)?,
+        ask_promised("history", desks, histories, |h| Some(promised(h)), history, |a| a.back.0.number)?,
         ask("sheet", desks, stations, |d, s| d.sheet(s), |a| a.number)?,
         ask("make", desks, asked_shapes(), made, |a| a.0.number)?,
         ask("byte write", desks, byte_data, |d, &data| d.byte_write(data), |a| a.number)?,
@@ -200,17 +225,92 @@ fn passed(desk: &dyn Desk, case: &ImageCase) -> (Passed, Vec<u8>, Vec<u8>) {
 }
 
 /// The answers of passes that go by the count handed back, and every byte of the image and of the journal, guards too.
-fn passed_in_turn(desk: &dyn Desk, case: &TurnsCase) -> (Vec<Passed>, Vec<u8>, Vec<u8>) {
+type InTurn = (Vec<Passed>, Vec<u8>, Vec<u8>);
+
+fn passed_in_turn(desk: &dyn Desk, case: &TurnsCase) -> InTurn {
     let (mut image, mut journal) = (Lent::new(&case.image), Lent::new(&case.journal));
+    let answers = turns(desk, case, &mut image, &mut journal, |_| ());
+    (answers, image.0, journal.0)
+}
+
+/// Passes that go by the count handed back, from a journal of which nothing is in use; `seen` is shown the image after each
+/// that is done.
+fn turns(
+    desk: &dyn Desk,
+    case: &TurnsCase,
+    image: &mut Lent,
+    journal: &mut Lent,
+    mut seen: impl FnMut(&Lent),
+) -> Vec<Passed> {
     let (mut answers, mut used) = (Vec::new(), 0);
     for &(code, start, end, stamp) in &case.turns {
         let answer = desk.pass(&code, image.bytes(), journal.bytes(), &Pass { start, end, used, stamp });
         if answer.number == 0 {
             used = answer.used;
+            seen(image);
         }
         answers.push(answer);
     }
-    (answers, image.0, journal.0)
+    answers
+}
+
+/// The answer and every byte of the image and of the journal, guards too.
+fn put_back(desk: &dyn Desk, case: &BackCase) -> (PutBack, Vec<u8>, Vec<u8>) {
+    let (mut image, mut journal) = (Lent::new(&case.image), Lent::new(&case.journal));
+    (desk.put_back(image.bytes(), journal.bytes(), case.used), image.0, journal.0)
+}
+
+/// What passes leave, and what comes of it when they are put back; all bytes with their guards.
+#[derive(PartialEq, Debug)]
+struct History {
+    passes: InTurn,
+    /// All entries in use put back: the answer, the image and the journal.
+    back: (PutBack, Vec<u8>, Vec<u8>),
+    /// The entries of one done pass after the other put back, the last pass first: the answers and the images.
+    each_back: Vec<(PutBack, Vec<u8>)>,
+    /// The same passes over what was put back, in the same journal.
+    again: InTurn,
+}
+
+/// The counts in use from none on, after each done pass.
+fn counts_in_use(answers: &[Passed]) -> Vec<usize> {
+    let done = answers.iter().filter(|answer| answer.number == 0).map(|answer| answer.used);
+    [0].into_iter().chain(done).collect()
+}
+
+fn history(desk: &dyn Desk, case: &TurnsCase) -> History {
+    let passes = passed_in_turn(desk, case);
+    let counts = counts_in_use(&passes.0);
+    let (mut image, mut journal) = (Lent(passes.1.clone()), Lent(passes.2.clone()));
+    let mut each_back = Vec::new();
+    for ends in counts.windows(2).rev() {
+        let entries = journal.bytes().get_mut(ENTRY * ends[0]..ENTRY * ends[1]).unwrap_or(&mut []);
+        let answer = desk.put_back(image.bytes(), entries, ends[1] - ends[0]);
+        each_back.push((answer, image.0.clone()));
+    }
+    let (mut image, mut journal) = (Lent(passes.1.clone()), Lent(passes.2.clone()));
+    let answer = desk.put_back(image.bytes(), journal.bytes(), counts[counts.len() - 1]);
+    let back = (answer, image.0.clone(), journal.0.clone());
+    let answers = turns(desk, case, &mut image, &mut journal, |_| ());
+    History { passes, back, each_back, again: (answers, image.0, journal.0) }
+}
+
+/// What 02's request 104 promises of a history, by whole copies of the image and with no put-back: all entries are put
+/// back, pass by pass the copy from before it comes again, the journal stays, and the same passes do the same again.
+fn promised(case: &TurnsCase) -> History {
+    let (mut image, mut journal) = (Lent::new(&case.image), Lent::new(&case.journal));
+    let mut copies = vec![image.0.clone()];
+    let answers = turns(&Second, case, &mut image, &mut journal, |left| copies.push(left.0.clone()));
+    let counts = counts_in_use(&answers);
+    let back = |count: usize| PutBack { number: 0, told: 0, count };
+    let each_back = counts.windows(2).zip(&copies).map(|(ends, copy)| (back(ends[1] - ends[0]), copy.clone()));
+    let passes = (answers, image.0, journal.0);
+    History {
+        back: (back(counts[counts.len() - 1]), copies[0].clone(), passes.2.clone()),
+        each_back: each_back.rev().collect(),
+        again: passes.clone(),
+        passes,
+    }
 }
 
 /// What words of a made code hold: each is cut to its k data bits.

@@ -1,14 +1,14 @@
 //! A desk is whatever answers all questions: the second program here, the linked desk in a comparison.
 
-use crate::answers::{Balanced, CardsChecked, Explained, Judged, Passed, Reading, Wanted, Written};
+use crate::answers::{Balanced, CardsChecked, Explained, Judged, Passed, PutBack, Reading, Wanted, Written};
 use crate::bytes::{ByteRead, ByteWritten};
 use crate::code::Code;
 use crate::make::Made;
 use crate::pass::Pass;
 use crate::sheet::{Sheeted, Station};
 
-/// Every question of document 01, and 02's sheet, maker and words of ten bytes. No method has a body here: a desk must not
-/// fall back on another's answer.
+/// Every question of document 01, and 02's put-back, sheet, maker and words of ten bytes. No method has a body here: a desk
+/// must not fall back on another's answer.
 pub trait Desk {
     fn name(&self) -> &'static str;
     fn wanted(&self, k: usize) -> Wanted;
@@ -19,6 +19,8 @@ pub trait Desk {
     fn explain(&self, code: &Code, data: u64, check: u16, limit: usize, list: &mut [u8]) -> Explained;
     fn card_check(&self, code: &Code, b: usize) -> CardsChecked;
     fn pass(&self, code: &Code, image: &mut [u8], journal: &mut [u8], asked: &Pass) -> Passed;
+    /// The journal is lent to be read; it could be written here, so that a desk which does so is noticed.
+    fn put_back(&self, image: &mut [u8], journal: &mut [u8], used: usize) -> PutBack;
     fn sheet(&self, asked: &Station) -> Sheeted;
     fn make(&self, k: usize, r: usize) -> Made;
     fn byte_write(&self, data: u64) -> ByteWritten;
@@ -65,6 +67,10 @@ impl Desk for Second {
 
     fn pass(&self, code: &Code, image: &mut [u8], journal: &mut [u8], asked: &Pass) -> Passed {
         crate::pass(code, image, journal, asked)
+    }
+
+    fn put_back(&self, image: &mut [u8], journal: &mut [u8], used: usize) -> PutBack {
+        crate::put_back(image, journal, used)
     }
 
     fn sheet(&self, asked: &Station) -> Sheeted {

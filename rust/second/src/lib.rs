@@ -1,15 +1,16 @@
-//! The independent second program: answers every question of document 01, and 02's sheet, maker and words of ten bytes,
-//! from the documents alone.
+//! The independent second program: answers every question of document 01, and 02's put-back, sheet, maker and words of ten
+//! bytes, from the documents alone.
 //!
 //! It goes by brute force over words of switches. A word is clean when writing its data gives its check bits; reading,
 //! explanations and cards flip places and ask that again. The syndrome is handed out, and its ones are counted where no
 //! flip helps; nothing is looked up by it, no columns are mixed, and nothing is shared with the desk.
 //!
 //! The questions are [`wanted`], [`judge`], [`row_balance`], [`write`], [`read`], [`explain`], [`card_check`], [`pass`],
-//! [`sheet`], [`make`], [`byte_write`], [`byte_read`] and the program [`mend`]. [`Desk`] gathers them, [`Cases`] makes
-//! cases from a seed, [`compare`] asks several desks, and [`worked`] asks a desk the documents' own cases.
+//! [`put_back`], [`sheet`], [`make`], [`byte_write`], [`byte_read`] and the program [`mend`]. [`Desk`] gathers them,
+//! [`Cases`] makes cases from a seed, [`compare`] asks several desks, and [`worked`] asks a desk the documents' own cases.
 
 mod answers;
+mod back;
 mod bytes;
 mod cards;
 pub mod cases;
@@ -25,7 +26,8 @@ mod sheet;
 mod word;
 mod worked;
 
-pub use answers::{Balanced, CardsChecked, Explained, Judged, Passed, Reading, Refusal, Wanted, Written};
+pub use answers::{Balanced, CardsChecked, Explained, Judged, Passed, PutBack, Reading, Refusal, Wanted, Written};
+pub use back::put_back;
 pub use bytes::{byte_read, byte_write, single_errors, spoilt, ByteRead, ByteWritten};
 pub use cards::card_check;
 pub use cases::Cases;

@@ -9,7 +9,7 @@ use std::str::FromStr;
 /// What buffers hold before a call.
 const FILL: u8 = 0xEE;
 
-/// What the questions are about; passes leave image and journal to the next.
+/// What the questions are about; passes and put-backs leave image and journal to the next.
 struct Worked {
     code: Code,
     image: Vec<u8>,
@@ -131,6 +131,11 @@ impl Worked {
                 let journal = &mut self.journal[..number::<usize>(length)];
                 let a = desk.pass(code, &mut self.image, journal, &asked);
                 said(&[a.number, a.told, a.used]) + &said(&a.tally)
+            }
+            ["back", length, used] => {
+                let journal = &mut self.journal[..number::<usize>(length)];
+                let a = desk.put_back(&mut self.image, journal, number(used));
+                said(&[a.number, a.told, a.count])
             }
             ["left"] => hex(&self.image, 2),
             ["noted"] => hex(changed(&self.journal), 2),

@@ -78,6 +78,30 @@ enum Fault {
     SyndromeOnRefusal,
     WrittenBitsAreTold,
     NoSyndromeIsTold,
+    // Putting back.
+    FirstToLast,
+    MismatchIsLetThrough,
+    AsReadIsMatched,
+    CountWithoutTheLast,
+    FirstEntryIsSkipped,
+    JournalIsWritten,
+    StopUndoes,
+    NumberIsNotChecked,
+    ToldInsteadOfCount,
+    StopGoesOn,
+    UnmatchedIsWritten,
+    AllAreCounted,
+    HeadIsJudged,
+    UnchangedIsNotCounted,
+    OnlyDataIsCompared,
+    OnlyDataIsPutBack,
+    NarrowRecordNumber,
+    CountBeforeLength,
+    LongImageIsPutBack,
+    OverTheRoomIsPutBack,
+    FullJournalIsNotPutBack,
+    NarrowCountIsPutBack,
+    CountOnRefusal,
     // Sheets.
     EndsAreOutside,
     CeilingIsAFloor,
@@ -158,8 +182,8 @@ impl Sloppy {
     }
 }
 
-/// A pass that is refused by this number: image and journal are put back.
-fn put_back(number: usize, image: &mut [u8], journal: &mut [u8], before: (Vec<u8>, Vec<u8>)) -> Passed {
+/// A pass that is refused by this number: image and journal are as they were.
+fn refused_pass(number: usize, image: &mut [u8], journal: &mut [u8], before: (Vec<u8>, Vec<u8>)) -> Passed {
     image.copy_from_slice(&before.0);
     journal.copy_from_slice(&before.1);
     Passed { number, ..Passed::default() }
@@ -182,17 +206,21 @@ impl Sloppy {
             (LastUsedEntryIsStamped, 0) if is_used => {
                 journal[30 * (used - 1)..][..4].copy_from_slice(&stamp.to_le_bytes())
             }
-            (FirstStampIsCompared, 0 | 13) if is_used && stamp < first => return put_back(16, image, journal, before),
+            (FirstStampIsCompared, 0 | 13) if is_used && stamp < first => {
+                return refused_pass(16, image, journal, before)
+            }
             (FirstStampIsCompared, 16) if stamp >= first => answer.number = 0,
-            (EqualStampIsRefused, 0 | 13) if is_used && stamp == last => return put_back(16, image, journal, before),
+            (EqualStampIsRefused, 0 | 13) if is_used && stamp == last => {
+                return refused_pass(16, image, journal, before)
+            }
             (StampIsTriedWithNoneUsed, 0 | 13) if used == 0 && stamp < first => {
-                return put_back(16, image, journal, before)
+                return refused_pass(16, image, journal, before)
             }
             (RoomFromTheStart, 13) if answer.told <= room => answer = Passed::default(),
             (OneUsedTooMany, 17) if used == room + 1 => answer.number = 0,
-            (FullJournalIsRefused, 0 | 13 | 16) if used == room => return put_back(17, image, journal, before),
+            (FullJournalIsRefused, 0 | 13 | 16) if used == room => return refused_pass(17, image, journal, before),
             (NoRoomForTheLast, 0) if answer.used == room && answer.used > used => {
-                return put_back(13, image, journal, before)
+                return refused_pass(13, image, journal, before)
             }
             (NarrowCountInUse, 17) => {
                 return pass(code, image, journal, &Pass { used: used as u32 as usize, ..*asked })
@@ -202,7 +230,7 @@ impl Sloppy {
                 if without.number == 13 {
                     return without;
                 }
-                return put_back(16, image, journal, before);
+                return refused_pass(16, image, journal, before);
             }
             (StampBeforeRun, 14) if is_used && stamp < last => answer.number = 16,
             (NewEntriesAreHandedBack, 0) => answer.used -= used,
@@ -210,6 +238,47 @@ impl Sloppy {
             _ => {}
         }
         answer
+    }
+}
+
+impl Sloppy {
+    /// The number by which this desk refuses to put back at all.
+    fn refused_back(&self, length: usize, room: usize, used: usize) -> usize {
+        let is_long = length > 65_530 && !self.has(LongImageIsPutBack);
+        let is_over = match self.0 {
+            OverTheRoomIsPutBack => used > room + 1,
+            FullJournalIsNotPutBack => used >= room.max(1),
+            NarrowCountIsPutBack => used as u32 as usize > room,
+            _ => used > room,
+        };
+        match (is_long || length % 10 != 0, is_over) {
+            (true, true) if self.has(CountBeforeLength) => 17,
+            (true, _) => 12,
+            (false, true) => 17,
+            (false, false) => 0,
+        }
+    }
+
+    /// Whether an entry matches, as this desk takes it; if so it is put back.
+    fn entry_back(&self, image: &mut [u8], entry: &mut [u8]) -> bool {
+        let high = if self.has(NarrowRecordNumber) { 0 } else { 256 * usize::from(entry[5]) };
+        let record = 10 * (usize::from(entry[4]) + high);
+        let held = match image.get_mut(record..record + 10) {
+            Some(held) => held,
+            None => return self.has(NumberIsNotChecked) || self.has(MismatchIsLetThrough),
+        };
+        let left = if self.has(AsReadIsMatched) { &entry[10..20] } else { &entry[20..] };
+        let compared = if self.has(OnlyDataIsCompared) { 8 } else { 10 };
+        let is_judged = self.has(HeadIsJudged) && !(1..=5).contains(&entry[6]);
+        let matches = held[..compared] == left[..compared] && !is_judged || self.has(MismatchIsLetThrough);
+        let written = if self.has(OnlyDataIsPutBack) { 8 } else { 10 };
+        if matches || self.has(UnmatchedIsWritten) {
+            held[..written].copy_from_slice(&entry[10..10 + written]);
+        }
+        if matches && self.has(JournalIsWritten) {
+            entry.copy_within(10..20, 20);
+        }
+        matches
     }
 }
 
@@ -375,6 +444,39 @@ impl Desk for Sloppy {
             (NothingIsMended, 0) => image.copy_from_slice(&before),
             (StrayIsNotCounted, 0) => answer.tally[5] = 0,
             (RefusedPassHasTally, 13) => answer.tally[3] = answer.told,
+            _ => {}
+        }
+        answer
+    }
+
+    fn put_back(&self, image: &mut [u8], journal: &mut [u8], used: usize) -> PutBack {
+        let number = self.refused_back(image.len(), journal.len() / 30, used);
+        if number != 0 {
+            return PutBack { number, told: 0, count: if self.has(CountOnRefusal) { used } else { 0 } };
+        }
+        let before = image.to_vec();
+        let (mut answer, first) = (PutBack::default(), usize::from(self.has(FirstEntryIsSkipped)));
+        let mut order: Vec<usize> = (first..(used as u32 as usize).min(journal.len() / 30)).rev().collect();
+        if self.has(FirstToLast) {
+            order.reverse();
+        }
+        for at in order {
+            let entry = &mut journal[30 * at..30 * at + 30];
+            let is_counted = !self.has(UnchangedIsNotCounted) || entry[10..20] != entry[20..];
+            if self.entry_back(image, entry) {
+                answer.count += usize::from(is_counted);
+            } else {
+                answer.number = 18;
+                if !self.has(StopGoesOn) {
+                    break;
+                }
+            }
+        }
+        match (self.0, answer.number) {
+            (StopUndoes, 18) => image.copy_from_slice(&before),
+            (AllAreCounted, 18) => answer.count = used,
+            (CountWithoutTheLast, 0) => answer.count = answer.count.saturating_sub(1),
+            (ToldInsteadOfCount, _) => answer = PutBack { told: answer.count, count: 0, ..answer },
             _ => {}
         }
         answer
@@ -574,6 +676,59 @@ fn every_fault_of_a_syndrome_is_noticed() {
     noticed(&ENTERED, "passes", Amounts { turns: 500, ..NO_CASES });
 }
 
+/// The faults of a put-back that true histories show, and those that want damage.
+const BACK: [Fault; 9] = [
+    FirstToLast,
+    AsReadIsMatched,
+    CountWithoutTheLast,
+    FirstEntryIsSkipped,
+    JournalIsWritten,
+    ToldInsteadOfCount,
+    UnchangedIsNotCounted,
+    OnlyDataIsPutBack,
+    FullJournalIsNotPutBack,
+];
+const DAMAGED_BACK: [Fault; 14] = [
+    MismatchIsLetThrough,
+    StopUndoes,
+    NumberIsNotChecked,
+    StopGoesOn,
+    UnmatchedIsWritten,
+    AllAreCounted,
+    HeadIsJudged,
+    OnlyDataIsCompared,
+    NarrowRecordNumber,
+    CountBeforeLength,
+    LongImageIsPutBack,
+    OverTheRoomIsPutBack,
+    NarrowCountIsPutBack,
+    CountOnRefusal,
+];
+
+#[test]
+fn every_fault_of_a_put_back_is_noticed() {
+    let amounts = Amounts { backs: 2_000, ..NO_CASES };
+    noticed(&BACK, "put back", amounts);
+    noticed(&DAMAGED_BACK, "put back", amounts);
+}
+
+#[test]
+fn histories_notice_what_breaks_their_promise() {
+    let amounts = Amounts { histories: 300, ..NO_CASES };
+    noticed(&BACK, "history", amounts);
+    // The promise is the document's: it is noticed too where all desks have the same fault.
+    for fault in BACK {
+        let difference = compare(&[&Sloppy(fault), &Sloppy(fault)], &amounts).expect_err("a promise is broken");
+        assert_eq!((difference.question, difference.answers[0].0), ("history", "the promise"));
+    }
+}
+
+#[test]
+fn a_put_back_without_a_fault_is_not_noticed() {
+    let amounts = Amounts { backs: 2_000, histories: 300, ..NO_CASES };
+    assert!(compare(&[&Second, &Sloppy(NoLastLineEnd)], &amounts).is_ok());
+}
+
 #[test]
 fn every_fault_of_a_sheet_is_noticed() {
     noticed(&[EndsAreOutside, CeilingIsAFloor, RoundedTwice, HoursAreNotJudged], "sheet", NO_CASES);
@@ -601,7 +756,8 @@ fn the_worked_cases_notice_every_easy_way_to_go_wrong_and_every_byte() {
     let bytes = [RefusedListIsWritten, ListTailIsCleared, RefusedPassIsNoted, NothingIsMended];
     let amended = [CardsRunStraightOn, DataCardIsJoined, CheckCardsAreLeftOut, CheckCardsFromZero];
     let made = [FiveBeforeThree, LargerNumberFirst, ColumnLeftOut, LeftoverIsMade, RoomForOneLess, RoomForOneMore];
-    for fault in ways.into_iter().chain(bytes).chain(amended).chain(made).chain(STAMPS).chain(TOLD).chain(ENTERED) {
+    let ways = ways.into_iter().chain(bytes).chain(amended).chain(made).chain(STAMPS).chain(TOLD).chain(ENTERED);
+    for fault in ways.chain(BACK).chain(DAMAGED_BACK) {
         assert!(!worked(&Sloppy(fault)).is_empty(), "{:?}", fault);
     }
 }

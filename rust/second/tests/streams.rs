@@ -1,8 +1,8 @@
 //! The streams of cases: fixed by their seed, and wide enough that every line of the document is asked.
 
-use second::cases::{edges, edges_of_bits, CardCase, HUGE};
+use second::cases::{edges, edges_of_bits, BackCase, CardCase, HUGE};
 use second::*;
-use std::collections::{BTreeSet, HashSet};
+use std::collections::{BTreeMap, BTreeSet, HashSet};
 
 const SMALL: Amounts = Amounts {
     seed: 1,
@@ -12,6 +12,8 @@ const SMALL: Amounts = Amounts {
     cards: 1_000,
     images: 1_000,
     turns: 1_000,
+    backs: 4_000,
+    histories: 500,
     sheets: 4_000,
     byte_errors: 2,
     byte_words: 4_000,
@@ -23,7 +25,7 @@ fn the_same_seed_gives_the_same_cases() {
     let all = |seed: u64| {
         let mut cases = Cases::new(seed);
         let some = |_| {
-            let program = (cases.image(), cases.turns(), cases.program_input());
+            let program = (cases.image(), cases.turns(), cases.back(), cases.history(), cases.program_input());
             let bytes = (cases.byte_data(), cases.byte_errors().sum::<u64>(), cases.byte_word());
             (cases.code(), cases.word(), cases.list(), cases.card(), cases.station(), bytes, program)
         };
@@ -47,6 +49,8 @@ fn every_number_of_every_question_is_met() {
         ("card check", met(&[0, 1, 2, 3, 4, 5, 6, 8, 9, 21])),
         ("pass", met(&[0, 1, 2, 3, 4, 5, 6, 12, 13, 14, 16, 17, 21])),
         ("passes", met(&[0, 1, 2, 3, 4, 5, 6, 13, 14, 16, 21])),
+        ("put back", met(&[0, 12, 17, 18])),
+        ("history", met(&[0])),
         ("sheet", met(&[0, 19])),
         ("make", met(&[0, 1, 2, 15])),
         ("byte write", met(&[0, 7])),
@@ -254,6 +258,123 @@ fn passes_in_turn_go_on_in_one_journal() {
         longest = longest.max(stamps.len());
     }
     assert!(done > 500 && refused_between > 50 && longest > 3, "{} {} {}", done, refused_between, longest);
+}
+
+/// What an entry says: the number of its record, its bytes as read and as left.
+fn said(journal: &[u8], at: usize) -> (usize, &[u8], &[u8]) {
+    let entry = &journal[30 * at..30 * at + 30];
+    (u16::from_le_bytes([entry[4], entry[5]]).into(), &entry[10..20], &entry[20..])
+}
+
+/// How many bits differ.
+fn bits_between(one: &[u8], other: &[u8]) -> u32 {
+    one.iter().zip(other).map(|(one, other)| (one ^ other).count_ones()).sum()
+}
+
+#[test]
+fn put_backs_are_done_refused_and_stopped_in_every_way() {
+    let mut cases = Cases::new(12);
+    let (mut numbers, mut seen) = ([0; 19], HashSet::new());
+    for _ in 0..4_000 {
+        let BackCase { image: before, journal, used } = cases.back();
+        let mut image = before.clone();
+        let answer = put_back(&mut image, &journal, used);
+        let (records, room, bytes) = (before.len() / 10, journal.len() / 30, before.len());
+        numbers[answer.number] += 1;
+        assert_eq!(answer.told, 0);
+        if answer.number == 12 || answer.number == 17 {
+            assert!(image == before && answer.count == 0);
+            seen.insert((12, "a byte too long", answer.number == 12 && bytes % 10 == 1 && bytes < 65_530));
+            seen.insert((12, "a byte short", answer.number == 12 && bytes % 10 == 9));
+            seen.insert((12, "a record too long", bytes == 65_540));
+            seen.insert((12, "and over the room", answer.number == 12 && used > room));
+            seen.insert((17, "one too many", answer.number == 17 && used == room + 1));
+            seen.insert((17, "a byte short", answer.number == 17 && used == room + 1 && journal.len() % 30 == 29));
+            seen.insert((17, "cut short they would fit", answer.number == 17 && used as u32 as usize <= room));
+            seen.insert((17, "no room", answer.number == 17 && room == 0));
+            continue;
+        }
+        // Each record holds what the first entry that was put back there says, or what it held.
+        let back = used - answer.count..used;
+        for (record, bytes) in image.chunks(10).enumerate() {
+            let first = back.clone().map(|at| said(&journal, at)).find(|said| said.0 == record);
+            assert_eq!(bytes, first.map_or(&before[10 * record..10 * record + 10], |said| said.1));
+        }
+        let named: Vec<usize> = back.clone().map(|at| said(&journal, at).0).collect();
+        if answer.number == 0 {
+            assert_eq!(answer.count, used);
+            seen.insert((0, "none in use", used == 0 && room > 0));
+            seen.insert((0, "room and a tail", used > 0 && used < room && journal.len() % 30 > 0));
+            seen.insert((0, "a full journal", used > 0 && 30 * used == journal.len()));
+            seen.insert((0, "no image", bytes == 0));
+            seen.insert((0, "the longest image", bytes == 65_530 && used > 0));
+            seen.insert((0, "a number of two bytes", named.iter().any(|&record| record > 255)));
+            let is_changed = |&at: &usize| said(&journal, at).1 != said(&journal, at).2;
+            let changed = back.filter(is_changed).filter(|&at| said(&journal, at).0 == named[0]).count();
+            seen.insert((0, "a record changed three times", changed > 2));
+            seen.insert((0, "nothing changed", used > 0 && image == before));
+        } else {
+            let (record, _, left) = said(&journal, used - answer.count - 1);
+            let held = image.get(10 * record..10 * record + 10);
+            assert_ne!(held, Some(left));
+            seen.insert((18, "at the last entry", answer.count == 0 && used > 1));
+            seen.insert((18, "at the first entry", answer.count + 1 == used && used > 1));
+            seen.insert((18, "between", answer.count > 1 && answer.count + 1 < used && image != before));
+            seen.insert((18, "outside by one", record == records && answer.count > 0));
+            seen.insert((18, "far outside", record == 65_535));
+            seen.insert((18, "outside by its high byte", held.is_none() && record % 256 < records));
+            seen.insert((18, "by one bit", held.map_or(false, |held| bits_between(held, left) == 1)));
+            seen.insert((18, "no image", bytes == 0));
+        }
+    }
+    for (number, &count) in numbers.iter().enumerate() {
+        assert_eq!(count > 100, [0, 12, 17, 18].contains(&number), "{} {} times", number, count);
+    }
+    let shapes: HashSet<_> = seen.iter().map(|&(number, shape, _)| (number, shape)).collect();
+    assert_eq!(shapes.len(), 24);
+    for (number, shape) in shapes {
+        assert!(seen.contains(&(number, shape, true)), "{} {}", number, shape);
+    }
+}
+
+#[test]
+fn histories_have_several_codes_overlapping_runs_and_refused_passes() {
+    let mut cases = Cases::new(13);
+    let (mut lengths, mut refused, mut seen) = (BTreeSet::new(), BTreeSet::new(), BTreeMap::new());
+    for _ in 0..500 {
+        let case = cases.history();
+        let (mut image, mut journal, mut used, mut done) = (case.image.clone(), case.journal.clone(), 0, Vec::new());
+        for &(code, start, end, stamp) in &case.turns {
+            let answer = pass(&code, &mut image, &mut journal, &Pass { start, end, used, stamp });
+            if answer.number == 0 {
+                used = answer.used;
+                done.push((code, start, end));
+            } else {
+                refused.insert(answer.number);
+            }
+        }
+        lengths.insert(case.turns.len());
+        let entries: Vec<_> = (0..used).map(|at| said(&journal, at)).collect();
+        // Entered as it was by one pass and mended by a later one: in another order they do not match.
+        let ordered = |at: usize| entries[at].1 != entries[at].2 && entries[..at].iter().any(|e| e.0 == entries[at].0);
+        let codes = done.iter().map(|&(code, _, _)| code.columns).collect::<HashSet<_>>().len();
+        let overlaps = |pair: &[(Code, usize, usize)]| pair[0].1.max(pair[1].1) < pair[0].2.min(pair[1].2);
+        let is = [
+            ("nothing is entered", used == 0),
+            ("the image changes", image != case.image),
+            ("three codes", codes > 2),
+            ("runs overlap", done.windows(2).any(overlaps)),
+            ("their order counts", (0..used).any(ordered)),
+            ("refused among done", !done.is_empty() && done.len() < case.turns.len()),
+            ("a full journal", used > 0 && used == journal.len() / 30),
+        ];
+        for (shape, is) in is {
+            *seen.entry(shape).or_insert(0) += usize::from(is);
+        }
+    }
+    assert_eq!(lengths, (0..=10).collect());
+    assert!([13, 14, 16].iter().all(|number| refused.contains(number)) && refused.contains(&4), "{:?}", refused);
+    assert!(seen.values().all(|&count| count >= 10), "{:?}", seen);
 }
 
 #[test]

@@ -46,7 +46,7 @@ impl Cases {
     }
 
     /// k different allowed columns in one of five styles.
-    fn sound_columns(&mut self, k: usize, r: usize) -> Vec<u16> {
+    pub(super) fn sound_columns(&mut self, k: usize, r: usize) -> Vec<u16> {
         let mut columns = match self.random.below(8) {
             0 => self.light[r][..k].to_vec(),
             1 => self.columns[r][..k].to_vec(),

@@ -71,7 +71,7 @@ impl Cases {
     }
 
     /// A run over so many records: whole, a part, with equal ends, backwards, or beyond.
-    fn run(&mut self, records: usize) -> (usize, usize) {
+    pub(super) fn run(&mut self, records: usize) -> (usize, usize) {
         let one = self.random.below(records + 1);
         let other = self.random.below(records + 1);
         let far = self.random.pick(&HUGE);
@@ -131,6 +131,15 @@ impl Cases {
         self.random.pick(&[0, 1, u32::MAX, byte, byte - 1, any, any, any])
     }
 
+    /// The stamp of the pass after one with this stamp: the same, a later one, now and then any.
+    pub(super) fn next_stamp(&mut self, stamp: u32) -> u32 {
+        match self.random.below(8) {
+            0..=3 => stamp,
+            4 => self.any_stamp(),
+            _ => stamp.saturating_add(self.random.below(300) as u32),
+        }
+    }
+
     /// A stamp against the entries in use: the last one's, next to it, the first one's, its bytes the other way round, any.
     fn stamp_after(&mut self, in_use: &[u8]) -> u32 {
         let any = self.any_stamp();
@@ -180,11 +189,7 @@ impl Cases {
         let turns = (0..2 + self.random.below(5)).map(|_| {
             let code = if self.random.once_in(8) { self.code() } else { code };
             let (start, end) = self.run(records);
-            stamp = match self.random.below(8) {
-                0..=3 => stamp,
-                4 => self.any_stamp(),
-                _ => stamp.saturating_add(self.random.below(300) as u32),
-            };
+            stamp = self.next_stamp(stamp);
             (code, start, end, stamp)
         });
         TurnsCase { turns: turns.collect(), image, journal }

@@ -2,6 +2,7 @@
 //!
 //! Each stream of cases is its own [`Cases`], so that asking more of one question moves no case of another.
 
+mod backs;
 mod codes;
 mod images;
 mod stations;
@@ -13,6 +14,7 @@ use crate::random::Random;
 use crate::word::Accepted;
 use std::rc::Rc;
 
+pub use backs::BackCase;
 pub use codes::asked_shapes;
 pub use images::{ImageCase, TurnsCase};
 pub use stations::edges;
