@@ -6,10 +6,10 @@ use native.Mathlib.Omega.{arith}
 use borrow.Rule.Slice.PartMut.{putMid}
 use lib.ListN.{length, length-append}
 use Rattle.record.proofs.Over.{over-part, over-all}
-use Rattle.word.specs.declared.Verdict.{Verdict}
-use Rattle.word.specs.declared.Verdict.the-variants.{Clean, Data, Check, Even, Odd, Stray}
-use Rattle.word.specs.Places.{NamesPlace}
-use Rattle.word.specs.Verdicts.{findingOf}
+use Rattle.verdict.specs.declared.Verdict.{Verdict}
+use Rattle.verdict.specs.declared.Verdict.the-variants.{Clean, Data, Check, Even, Odd, Stray}
+use Rattle.verdict.specs.Places.{NamesPlace}
+use Rattle.verdict.specs.Verdicts.{findingOf}
 
 pub verdict-top : (v : Verdict) → findingOf v .verdict ≤ 5
 verdict-top Clean = omega arith

@@ -8,11 +8,11 @@ use lib.ListN.{length}
 use Rattle.record.specs.Layout.{recordSize, headSize, entrySize, entryBytes}
 use Rattle.runs.proofs.Records.{length-record}
 use Rattle.runs.proofs.Entries.{length-entry}
-use Rattle.word.specs.declared.Verdict.{Verdict}
-use Rattle.word.specs.declared.Verdict.the-variants.{Clean, Data, Check, Even, Odd, Stray}
+use Rattle.verdict.specs.declared.Verdict.{Verdict}
+use Rattle.verdict.specs.declared.Verdict.the-variants.{Clean, Data, Check, Even, Odd, Stray}
 use Rattle.word.specs.Word.{joined, flippedIn}
-use Rattle.word.specs.Verdicts.{findingOf}
-use Rattle.word.specs.Places.{NamesPlace}
+use Rattle.verdict.specs.Verdicts.{findingOf}
+use Rattle.verdict.specs.Places.{NamesPlace}
 use Rattle.word.proofs.Named.{reading-names}
 use Rattle.at_record.specs.Outcome.{Reader, Ready, wordIn, seen, leftBy, verdictOf, leftOf, entryOf}
 

@@ -5,11 +5,12 @@ use lib.ListN.{length, take, drop}
 use Rattle.record.specs.Bytes.{numberOf}
 use Rattle.record.specs.Layout.{recordBytes, checkIn, Entry}
 use Rattle.word.specs.declared.Word.{Word}
-use Rattle.word.specs.declared.Verdict.{Verdict}
-use Rattle.word.specs.declared.Verdict.the-variants.{Clean, Data, Check, Even, Odd, Stray}
+use Rattle.verdict.specs.declared.Verdict.{Verdict}
+use Rattle.verdict.specs.declared.Verdict.the-variants.{Clean, Data, Check, Even, Odd, Stray}
 use Rattle.word.specs.Word.{joined, flippedIn}
 use Rattle.word.specs.declared.Sight.{Sight}
-use Rattle.word.specs.Verdicts.{readIn, syndromeIn, findingOf}
+use Rattle.word.specs.Verdicts.{readIn, syndromeIn}
+use Rattle.verdict.specs.Verdicts.{findingOf}
 
 -- what records are read with: the n columns of a code, k of them data columns, its set of rows, and the bytes of data in a record
 pub record Reader : Type 0 where

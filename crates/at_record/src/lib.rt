@@ -2,12 +2,12 @@
 ghost use mathlib.Core.Path.{_≡_};
 ghost use lib.ListN.{length};
 ghost use Rattle.record.specs.Layout.{recordSize, entrySize, entryBytes};
-ghost use Rattle.word.specs.Places.{NamesPlace};
+ghost use Rattle.verdict.specs.Places.{NamesPlace};
 ghost use Rattle.at_record.specs.Outcome.{reader, Held, Ready, sight, leftBy, entryBy};
 use record::CHECK;
 use record::HEAD;
+use verdict::Verdict;
 use word::Sight;
-use word::Verdict;
 use word::Word;
 
 // The bytes of data in the low half of a word.
@@ -57,7 +57,7 @@ pub fn enter(rec: &mut [u8], entry: &mut [u8], d: usize, k: usize, stamp: u32, n
     let middle = HEAD + rec.len();
     let end = middle + rec.len();
     let verdict = sight.verdict;
-    let finding = word::finding_of(verdict);
+    let finding = verdict::finding_of(verdict);
     record::put_head(
         &mut entry[0..HEAD],
         stamp,

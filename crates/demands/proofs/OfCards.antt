@@ -12,7 +12,7 @@ use Rattle.columns.specs.Mix.{singles}
 use Rattle.code.specs.declared.Code.{Code}
 use Rattle.code.specs.Rule.{matrixOf}
 use Rattle.code.specs.Opened.{openedOf}
-use Rattle.word.specs.declared.Verdict.the-variants.{Even, Odd}
+use Rattle.verdict.specs.declared.Verdict.the-variants.{Even, Odd}
 use Rattle.cards.specs.declared.CardCheck.{CardCheck}
 use Rattle.cards.specs.Cards.{cardsIn, cardAt}
 use Rattle.cards.specs.Rule.{CardProof, flipMask}

@@ -22,12 +22,13 @@ use Rattle.code.proofs.Rule.{matrix-below}
 use Rattle.code.proofs.Table.{judge-rule}
 use Rattle.sound.proofs.Hsiao.{sound-code}
 use Rattle.word.specs.declared.Word.{Word}
-use Rattle.word.specs.declared.Verdict.{Verdict}
-use Rattle.word.specs.declared.Verdict.the-variants.{Clean, Data, Check, Even, Odd, Stray}
+use Rattle.verdict.specs.declared.Verdict.{Verdict}
+use Rattle.verdict.specs.declared.Verdict.the-variants.{Clean, Data, Check, Even, Odd, Stray}
 use Rattle.word.specs.Word.{joined}
-use Rattle.word.specs.Places.{NamesPlace}
-use Rattle.word.specs.Verdicts.{findingOf, mendedBy}
-use Rattle.word.specs.Reading.{readingBy, readingAs}
+use Rattle.verdict.specs.Places.{NamesPlace}
+use Rattle.verdict.specs.Verdicts.{findingOf}
+use Rattle.reading.specs.Reading.{mendedBy}
+use Rattle.reading.specs.Reading.{readingBy, readingAs}
 use Rattle.word.proofs.Handed.{flipped-check, flipped-low}
 use Rattle.word.proofs.Named.{reading-names}
 use Rattle.mending.proofs.Syndromes.{syndrome-lt, syndrome-read}

@@ -25,17 +25,19 @@ use Rattle.code.specs.declared.Standing.the-variants as standing
 use Rattle.code.specs.Rule.{matrixOf}
 use Rattle.code.specs.Opened.{openedOf}
 use Rattle.code.proofs.Laying.{laid-columns}
-use Rattle.word.specs.declared.CheckWord.{CheckWord}
-use Rattle.word.specs.declared.Verdict.{Verdict}
-use Rattle.word.specs.declared.Verdict.the-variants.{Clean, Data, Check, Even, Odd, Stray}
+use Rattle.writing.specs.declared.CheckWord.{CheckWord}
+use Rattle.verdict.specs.declared.Verdict.{Verdict}
+use Rattle.verdict.specs.declared.Verdict.the-variants.{Clean, Data, Check, Even, Odd, Stray}
 use Rattle.word.specs.Word.{wordOf, strayIn}
-use Rattle.word.specs.Verdicts.{syndromeIn, findingOf}
-use Rattle.word.specs.Reading.{readingAs, readingBy}
-use Rattle.word.specs.Writing.{checksOf, writeIn, writingAs, writingOf}
-use Rattle.word.proofs.Rows.{on-clean}
+use Rattle.word.specs.Verdicts.{syndromeIn}
+use Rattle.verdict.specs.Verdicts.{findingOf}
+use Rattle.reading.specs.Reading.{readingAs, readingBy}
+use Rattle.writing.specs.Writing.{checksOf, writeIn, writingAs, writingOf}
+use Rattle.verdict.proofs.Rows.{on-clean}
 use Rattle.word.proofs.Strays.{in-stray}
-use Rattle.word.proofs.Writing.{write-checks}
-use Rattle.word.proofs.Exactly.{stray-refused, stray-unwritten}
+use Rattle.writing.proofs.Writing.{write-checks}
+use Rattle.reading.proofs.Exactly.{stray-refused}
+use Rattle.writing.proofs.Exactly.{stray-unwritten}
 use Rattle.mending.proofs.Parts.{data-of-word, check-of-word, word-fits}
 use Rattle.mending.proofs.Strays.{stray-of}
 use Rattle.mending.proofs.Reading.{one-flip-data, one-flip-check, two-flips-even, data-mends, check-mends, even-unmended, odd-unmended}

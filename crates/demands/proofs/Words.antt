@@ -15,13 +15,14 @@ use Rattle.code.specs.Rule.{matrixOf}
 use Rattle.code.specs.Opened.{openedOf}
 use Rattle.code.proofs.Laying.{laid-columns}
 use Rattle.word.specs.declared.Word.{Word}
-use Rattle.word.specs.declared.Verdict.{Verdict}
-use Rattle.word.specs.declared.Verdict.the-variants.{Clean, Data, Check, Even, Odd, Stray}
+use Rattle.verdict.specs.declared.Verdict.{Verdict}
+use Rattle.verdict.specs.declared.Verdict.the-variants.{Clean, Data, Check, Even, Odd, Stray}
 use Rattle.word.specs.Word.{dataOf, checkOf, inParts}
-use Rattle.word.specs.Verdicts.{verdictOn, readIn, syndromeIn, findingOf}
-use Rattle.word.specs.Table.{VerdictTable}
-use Rattle.word.specs.Reading.{givenReading, readingBy, readingOf}
-use Rattle.word.proofs.Exactly.{RowOf, verdict-row, verdict-table}
+use Rattle.verdict.specs.Verdicts.{verdictOn, findingOf}
+use Rattle.word.specs.Verdicts.{readIn, syndromeIn}
+use Rattle.verdict.specs.Table.{VerdictTable}
+use Rattle.reading.specs.Reading.{givenReading, readingBy, readingOf}
+use Rattle.verdict.proofs.Exactly.{RowOf, verdict-row, verdict-table}
 use Rattle.mending.proofs.Parts.{data-fits}
 use Rattle.mending.proofs.Reading.{mendedNumber, mended-parts, read-number, data-inside}
 use Rattle.mending.proofs.Syndromes.{syndrome-number}

@@ -13,7 +13,7 @@ use Rattle.code.specs.declared.Refusal.{Refusal}
 use Rattle.code.specs.Rule.{matrixOf}
 use Rattle.code.specs.Opened.{openedOf, columnsOf}
 use Rattle.balance.specs.declared.RowBalance.{RowBalance}
-use Rattle.word.specs.declared.CheckWord.{CheckWord}
+use Rattle.writing.specs.declared.CheckWord.{CheckWord}
 use Rattle.word.specs.Word.{wordOf, dataOf, checkOf}
 use Rattle.explain.specs.declared.Listing.{Listing}
 use Rattle.explain.specs.Explanations as explaining

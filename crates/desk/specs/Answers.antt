@@ -11,10 +11,10 @@ use Rattle.wanted.specs.Wanted.{wantedOf}
 use Rattle.balance.specs.declared.RowBalance.{RowBalance}
 use Rattle.balance.specs.Balance.{balancesOf}
 use Rattle.word.specs.declared.Word.{Word}
-use Rattle.word.specs.declared.Reading.{Reading}
-use Rattle.word.specs.declared.CheckWord.{CheckWord}
-use Rattle.word.specs.Writing.{writingOf}
-use Rattle.word.specs.Reading.{readingOf}
+use Rattle.reading.specs.declared.Reading.{Reading}
+use Rattle.writing.specs.declared.CheckWord.{CheckWord}
+use Rattle.writing.specs.Writing.{writingOf}
+use Rattle.reading.specs.Reading.{readingOf}
 use Rattle.record.specs.Layout.{dataSize}
 use Rattle.explain.specs.Explanations.{Explained, explainOf}
 use Rattle.cards.specs.declared.CardCheck.{CardCheck}

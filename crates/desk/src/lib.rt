@@ -20,8 +20,8 @@ use record::DATA;
 use sheet::Limit;
 use sheet::SheetAnswer;
 use wanted::CheckBits;
-use word::CheckWord;
 use word::Word;
+use writing::CheckWord;
 
 // The version of what a caller links: raised by each landing that changes a struct, a size or a meaning.
 const VERSION: usize = 5;
@@ -62,7 +62,7 @@ pub extern "C" fn desk_row_balance(code: Code) -> RowBalance
 pub extern "C" fn desk_write(code: Code, data: u64) -> CheckWord
     ensures { λ a. ⌜ a ≡ writtenOf code «data» ⌝ }
 {
-    word::write(code::open_code(code), data, 0)
+    writing::write(code::open_code(code), data, 0)
 }
 
 // Reading: verdict, place, the word handed back, and the syndrome.
@@ -86,7 +86,7 @@ pub extern "C" fn desk_read(code: Code, data: u64, check: u16) -> ReadWord
         high: 0,
         check,
     };
-    let reading = word::read(code::open_code(code), word);
+    let reading = reading::read(code::open_code(code), word);
     let handed = reading.word;
     ReadWord {
         number: reading.number,

@@ -7,9 +7,10 @@ use lib.Dec.{eqb, ltb}
 use lib.ListN.{length}
 use Rattle.parity.specs.Odd.{oddIn}
 use Rattle.columns.specs.Mix.{mix, placeIn}
-use Rattle.word.specs.declared.Verdict.the-variants.{Clean, Data, Check, Even, Odd}
+use Rattle.verdict.specs.declared.Verdict.the-variants.{Clean, Data, Check, Even, Odd}
 use Rattle.word.specs.Word.{inParts}
-use Rattle.word.specs.Verdicts.{verdictOn, readIn}
+use Rattle.verdict.specs.Verdicts.{verdictOn}
+use Rattle.word.specs.Verdicts.{readIn}
 use Rattle.mending.proofs.Reading.{read-number}
 use Rattle.explain.specs.Explanations.{isClean}
 

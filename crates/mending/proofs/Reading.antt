@@ -12,12 +12,14 @@ use Rattle.columns.specs.Mix.{column, mix, flipped}
 use Rattle.columns.specs.Sound.{Sound}
 use Rattle.columns.proofs.Linear.{mix-flip}
 use Rattle.columns.proofs.Errors.{one-flip, two-flagged}
-use Rattle.word.specs.declared.Verdict.{Verdict}
-use Rattle.word.specs.declared.Verdict.the-variants.{Clean, Data, Check, Even, Odd, Stray}
+use Rattle.verdict.specs.declared.Verdict.{Verdict}
+use Rattle.verdict.specs.declared.Verdict.the-variants.{Clean, Data, Check, Even, Odd, Stray}
 use Rattle.word.specs.Word.{inParts}
-use Rattle.word.specs.Verdicts.{verdictOn, readIn, mendedBy}
+use Rattle.verdict.specs.Verdicts.{verdictOn}
+use Rattle.word.specs.Verdicts.{readIn}
+use Rattle.reading.specs.Reading.{mendedBy}
 use Rattle.word.proofs.Strays.{in-verdict}
-use Rattle.word.proofs.Exactly.{RowOf, verdict-row, row-data, row-check, row-even}
+use Rattle.verdict.proofs.Exactly.{RowOf, verdict-row, row-data, row-check, row-even}
 use Rattle.mending.proofs.Parts.{number-of-parts, parts-unstrayed, flipped-parts}
 
 -- the word handed back, as one number

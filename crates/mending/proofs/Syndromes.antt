@@ -10,10 +10,11 @@ use Rattle.parity.specs.Odd.{oddIn}
 use Rattle.columns.specs.Mix.{column, mix, placeIn}
 use Rattle.columns.proofs.Words.{mix-lt}
 use Rattle.word.specs.declared.Word.{Word}
-use Rattle.word.specs.declared.Verdict.the-variants.{Clean, Data, Check, Even, Odd, Stray}
+use Rattle.verdict.specs.declared.Verdict.the-variants.{Clean, Data, Check, Even, Odd, Stray}
 use Rattle.word.specs.Word.{inParts, asNumber, strayIn}
-use Rattle.word.specs.Verdicts.{verdictOn, readIn, syndromeIn}
-use Rattle.word.specs.Reading.{readingBy}
+use Rattle.verdict.specs.Verdicts.{verdictOn}
+use Rattle.word.specs.Verdicts.{readIn, syndromeIn}
+use Rattle.reading.specs.Reading.{readingBy}
 use Rattle.word.proofs.Strays.{in-syndrome}
 use Rattle.mending.proofs.Parts.{number-of-parts, parts-unstrayed}
 

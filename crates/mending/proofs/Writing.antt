@@ -12,7 +12,7 @@ use Rattle.columns.specs.Mix.{mix}
 use Rattle.columns.specs.Sound.{Sound}
 use Rattle.columns.proofs.Words.{mix-lt}
 use Rattle.word.specs.Word.{wordOf}
-use Rattle.word.specs.Writing.{checksOf}
+use Rattle.writing.specs.Writing.{checksOf}
 use Rattle.word.proofs.Halves.{mix-cut}
 
 module _ {odd : ℕ → ℕ} {cs : List ℕ} {k r : ℕ} (sound : Sound odd cs k r) where

@@ -13,7 +13,7 @@ use Rattle.record.specs.Run.{recordAt, gather, over}
 use Rattle.record.specs.Journal.{unclean, neededOf, entriesOf}
 use Rattle.runs.proofs.Run.{record-length, record-next, record-kept, gather-write, sum-mono, length-left}
 use Rattle.runs.proofs.Journal.{needed-more, entries-write, length-entries}
-use Rattle.word.specs.declared.Verdict.{Verdict}
+use Rattle.verdict.specs.declared.Verdict.{Verdict}
 use Rattle.word.specs.declared.Sight.{Sight}
 use Rattle.at_record.specs.Outcome.{Reader, seen, sight, leftBy, entryBy, verdictOf, leftOf, entryOf}
 use Rattle.over_run.specs.Whole.{neededBy}

@@ -22,7 +22,7 @@ pub fn needed(columns: &[u16], k: usize, rows: u16, d: usize, run: &[u8]) -> usi
         let end = at + size;
         let sight = at_record::look(columns, k, rows, d, &run[at..end]);
         let verdict = sight.verdict;
-        let finding = word::finding_of(verdict);
+        let finding = verdict::finding_of(verdict);
         i += 1;
         if finding.verdict != 0 {
             count += 1;
@@ -60,7 +60,7 @@ pub fn pass_run(
         let number = (first + i) as u16;
         let sight = at_record::look(columns, k, rows, d, &run[at..end]);
         let verdict = sight.verdict;
-        let finding = word::finding_of(verdict);
+        let finding = verdict::finding_of(verdict);
         let found = finding.verdict as u8;
         tally = tally.counted(found);
         i += 1;

@@ -17,9 +17,10 @@ use Rattle.runs.proofs.Journal.{length-entries, count-entries, needed-or-clean}
 use Rattle.runs.proofs.Image as runs
 use Rattle.code.specs.declared.Opened.{Opened}
 use Rattle.code.specs.declared.Standing.the-variants as standing
-use Rattle.word.specs.declared.Verdict.{Verdict}
-use Rattle.word.specs.declared.Verdict.the-variants.{Clean, Data, Check, Even, Odd, Stray}
-use Rattle.word.specs.Verdicts.{findingOf, mendedBy}
+use Rattle.verdict.specs.declared.Verdict.{Verdict}
+use Rattle.verdict.specs.declared.Verdict.the-variants.{Clean, Data, Check, Even, Odd, Stray}
+use Rattle.verdict.specs.Verdicts.{findingOf}
+use Rattle.reading.specs.Reading.{mendedBy}
 use Rattle.at_record.specs.Outcome.{Reader, wordIn, recordOf, seen, syndromeOf, leftBy, verdictOf, leftOf, entryOf}
 use Rattle.asked.specs.Pass.{Pass, State, passOver, roomIn}
 use Rattle.pass.specs.Pass.{After, notedRun, neededRun, countRun, tallyRun, behind, readerOf, afterPass}

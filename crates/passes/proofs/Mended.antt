@@ -22,11 +22,12 @@ use Rattle.code.specs.declared.Opened.{Opened}
 use Rattle.code.specs.declared.Standing.the-variants as standing
 use Rattle.code.specs.Opened.{columnsOf, Laid, SoundOpened}
 use Rattle.word.specs.declared.Word.{Word}
-use Rattle.word.specs.declared.Verdict.{Verdict}
-use Rattle.word.specs.declared.Verdict.the-variants.{Clean, Data, Check, Even, Odd, Stray}
+use Rattle.verdict.specs.declared.Verdict.{Verdict}
+use Rattle.verdict.specs.declared.Verdict.the-variants.{Clean, Data, Check, Even, Odd, Stray}
 use Rattle.word.specs.Word.{joined, wordOf, dataOf, asNumber, inParts, strays, strayIn, flippedIn}
-use Rattle.word.specs.Verdicts.{verdictOn, readIn, findingOf}
-use Rattle.word.proofs.Rows.{on-clean}
+use Rattle.verdict.specs.Verdicts.{verdictOn, findingOf}
+use Rattle.word.specs.Verdicts.{readIn}
+use Rattle.verdict.proofs.Rows.{on-clean}
 use Rattle.word.proofs.Strays.{in-stray, in-verdict}
 use Rattle.mending.proofs.Parts.{data-fits, check-fits, word-fits, joined-halves, parts-of-number, flipped-parts}
 use Rattle.mending.proofs.Reading.{read-number, data-mends, check-mends}

@@ -9,9 +9,9 @@ use lib.Count.{ones}
 use lib.ListN.{length}
 use Rattle.columns.specs.Mix.{mix, placeIn}
 use Rattle.columns.proofs.Places.{place-none}
-use Rattle.word.specs.declared.Verdict.the-variants.{Even, Odd}
-use Rattle.word.specs.Verdicts.{verdictOn}
-use Rattle.word.proofs.Rows.{on-even, on-odd}
+use Rattle.verdict.specs.declared.Verdict.the-variants.{Even, Odd}
+use Rattle.verdict.specs.Verdicts.{verdictOn}
+use Rattle.verdict.proofs.Rows.{on-even, on-odd}
 use Rattle.cards.specs.Cards.{allCards, cardAt}
 use Rattle.cards.specs.Rule.{Flagged, CardProof, flipMask}
 use Rattle.shields.proofs.Flips.{InPlace, flips-stay, flips-made, card-stands}

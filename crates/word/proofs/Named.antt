@@ -1,37 +1,23 @@
 -- A verdict on a word names a place of it. Assumes nothing.
-use mathlib.Core.Path.{_≡_, refl}
 use mathlib.Core.Bool.{Bool, true, false, cond}
 use mathlib.Core.List.{List}
 use Prim.Native.Nat.{ℕ, _+_, _≤_}
-use native.Mathlib.Omega.{arith}
-use borrow.Author.Tests.{ltb-true, ltb-false}
-use lib.Dec.{eqb, ltb}
 use lib.ListN.{length}
 use Rattle.parity.specs.Odd.{oddIn}
-use Rattle.columns.specs.Mix.{mix, placeIn}
+use Rattle.columns.specs.Mix.{mix}
+use Rattle.verdict.specs.declared.Verdict.the-variants.{Stray}
+use Rattle.verdict.specs.Places.{NamesPlace}
+use Rattle.verdict.specs.Verdicts.{verdictOn}
+use Rattle.verdict.proofs.Named.{verdict-names}
 use Rattle.word.specs.declared.Word.{Word}
-use Rattle.word.specs.declared.Verdict.the-variants.{Clean, Data, Check, Even, Odd, Stray}
 use Rattle.word.specs.Word.{asNumber, strayIn}
-use Rattle.word.specs.Places.{NamesPlace}
-use Rattle.word.specs.Verdicts.{verdictOn, readIn}
+use Rattle.word.specs.Verdicts.{readIn}
 
 module _ (cs : List ℕ) (k : ℕ) (few : length cs ≤ k + 16) where
-  pub verdict-names : (odd : ℕ → ℕ) (s : ℕ) → NamesPlace k (verdictOn odd cs k s)
-  unfolding verdictOn
-  verdict-names odd s = go (eqb s 0) (ltb (placeIn cs s) k) (ltb (placeIn cs s) (length cs)) (eqb (odd s) 0) refl refl
-    where
-      go : (z d c e : Bool) → ltb (placeIn cs s) k ≡ d → ltb (placeIn cs s) (length cs) ≡ c
-          → NamesPlace k (cond z Clean (cond d (Data (placeIn cs s)) (cond c (Check (placeIn cs s)) (cond e Even Odd))))
-      go true d c e hd hc = tt
-      go false true c e hd hc = ltb-true (placeIn cs s) k hd
-      go false false true e hd hc = (ltb-false (placeIn cs s) k hd, omega (arith, ltb-true (placeIn cs s) (length cs) hc))
-      go false false false true hd hc = tt
-      go false false false false hd hc = tt
-
   pub reading-names : (rows : ℕ) (w : Word) → NamesPlace k (readIn rows cs k w)
   unfolding readIn
   reading-names rows w = go (strayIn (length cs) k w)
     where
       go : (s : Bool) → NamesPlace k (cond s Stray (verdictOn (oddIn rows) cs k (mix cs (asNumber k w))))
       go true = tt
-      go false = verdict-names (oddIn rows) (mix cs (asNumber k w))
+      go false = verdict-names cs k few (oddIn rows) (mix cs (asNumber k w))

@@ -12,9 +12,10 @@ use lib.Pow.{pow-pos, pow-mono, high, shr-shr}
 use Rattle.columns.specs.Mix.{mix}
 use Rattle.parity.specs.Odd.{oddIn}
 use Rattle.word.specs.declared.Word.{Word}
-use Rattle.word.specs.declared.Verdict.the-variants.{Stray}
+use Rattle.verdict.specs.declared.Verdict.the-variants.{Stray}
 use Rattle.word.specs.Word.{joined, asNumber, strays, strayIn}
-use Rattle.word.specs.Verdicts.{verdictOn, readIn, syndromeIn}
+use Rattle.verdict.specs.Verdicts.{verdictOn}
+use Rattle.word.specs.Verdicts.{readIn, syndromeIn}
 
 -- what is left after moving down by the width
 stray-shift : (width bits : ℕ) → ltb 0 (bits / 2 ^ width) ≡ strays width bits

@@ -7,8 +7,9 @@ use Rattle.columns.specs.Solving.{solveFrom, solve}
 use Rattle.code.specs.Judge.{judgeColumn, judgeFrom, judgeColumns, leftoverFrom, judgeRest, judgeIn}
 use Rattle.balance.specs.Balance.{sumOf, balanceAt, balancesFrom}
 use Rattle.word.specs.Word.{flippedIn}
-use Rattle.word.specs.Verdicts.{verdictOn, readIn, syndromeIn}
-use Rattle.word.specs.Writing.{writeIn}
+use Rattle.verdict.specs.Verdicts.{verdictOn}
+use Rattle.word.specs.Verdicts.{readIn, syndromeIn}
+use Rattle.writing.specs.Writing.{writeIn}
 use Rattle.listing.specs.Sets.{flipAll, chosen, setsUpTo, those, bytesFor}
 use Rattle.explain.specs.Explanations.{explanations, listedIn, explainIn}
 use Rattle.cards.specs.Cards.{cutInto, weakMask, firstFrom, tryMask, weakMaskIn, weakCardIn}

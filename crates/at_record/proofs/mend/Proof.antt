@@ -4,7 +4,7 @@ use mathlib.Core.Path.{sym, ap, subst, _∙_}
 use native.Mathlib.Omega.{arith}
 use borrow.Author.Needs.{needs}
 use Rattle.record.specs.Bytes.{AllBytes}
-use Rattle.word.specs.Places.{NamesPlace}
+use Rattle.verdict.specs.Places.{NamesPlace}
 use Rattle.at_record.specs.Outcome.{leftBy}
 use Rattle.at_record.proofs.Mends.{turned-data, turned-check}
 use Rattle.at_record.proofs.mend.Statement.{statement}

@@ -1,6 +1,6 @@
 -- `desk::desk_read` meets its contract: an opening, and the question. Assumes nothing.
 use mathlib.Core.Path.{ap, _∙_}
-use Rattle.word.specs.Reading.{readingOf}
+use Rattle.reading.specs.Reading.{readingOf}
 use Rattle.desk.specs.Answers.{wordWith, narrowed}
 use borrow.Author.Needs.{needs}
 use Rattle.desk.proofs.desk_read.Statement.{statement}

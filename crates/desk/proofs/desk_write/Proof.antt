@@ -1,7 +1,7 @@
 -- `desk::desk_write` meets its contract: an opening, and the question; the high half is empty. Assumes nothing.
 use mathlib.Core.Path.{ap₂, _∙_}
 use native.Mathlib.Nat.{add-zero}
-use Rattle.word.specs.Writing.{writingOf}
+use Rattle.writing.specs.Writing.{writingOf}
 use borrow.Author.Needs.{needs}
 use Rattle.desk.proofs.desk_write.Statement.{statement}
 use Rattle.desk.proofs.desk_write.Tie as tie

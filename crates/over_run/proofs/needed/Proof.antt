@@ -9,7 +9,7 @@ use Rattle.record.specs.Layout.{recordSize, recordsIn}
 use Rattle.record.specs.Run.{recordAt, addUp}
 use Rattle.record.specs.Journal.{neededOf}
 use Rattle.runs.proofs.Journal.{needed-clean, needed-more, needed-or-clean}
-use Rattle.word.specs.Verdicts.{findingOf}
+use Rattle.verdict.specs.Verdicts.{findingOf}
 use Rattle.at_record.specs.Outcome.{Reader, reader, seen, verdictOf}
 use Rattle.runs.proofs.Sizes.{whole-fits}
 use Rattle.over_run.proofs.needed.Statement.{statement}

@@ -14,8 +14,8 @@ use Rattle.record.specs.Tally.{countedOf, tallyOf}
 use Rattle.record.proofs.Over.{over-all}
 use Rattle.runs.proofs.Tallies.{tally-step}
 use Rattle.runs.proofs.Journal.{needed-clean, entries-clean}
-use Rattle.word.specs.Places.{NamesPlace}
-use Rattle.word.specs.Verdicts.{findingOf}
+use Rattle.verdict.specs.Places.{NamesPlace}
+use Rattle.verdict.specs.Verdicts.{findingOf}
 use Rattle.at_record.specs.Outcome.{Reader, reader, seen, sight, verdictOf, entryOf}
 use Rattle.runs.proofs.Sizes.{whole-fits, no-rest, number-below}
 use Rattle.at_record.proofs.Entered.{verdict-top}
