@@ -11,12 +11,12 @@ use Rattle.columns.proofs.Singles.{length-joined}
 use Rattle.code.specs.declared.Refusal.{Refusal}
 use Rattle.code.specs.declared.Standing.{Standing}
 use Rattle.code.specs.declared.Standing.the-variants as standing
-use Rattle.code.specs.declared.Judged.{Judged}
-use Rattle.code.specs.declared.Judged.the-variants.{Accepted, NoData, NoChecks, TooWide, EvenColumn, SingleOne, Repeated, Leftover}
-use Rattle.code.specs.Judge.{judgeIn}
-use Rattle.code.specs.Rule.{matrix}
+use Rattle.judge.specs.declared.Judged.{Judged}
+use Rattle.judge.specs.declared.Judged.the-variants.{Accepted, NoData, NoChecks, TooWide, EvenColumn, SingleOne, Repeated, Leftover}
+use Rattle.judge.specs.Judge.{judgeIn}
+use Rattle.judge.specs.Rule.{matrix}
 use Rattle.code.specs.Opened.{standingOf, openedBy, openedIn, Laid}
-use Rattle.code.proofs.Table.{judge-rule}
+use Rattle.judge.proofs.Table.{judge-rule}
 
 -- a refusal is no acceptance
 abbrev isAccepted : Standing → Bool

@@ -14,14 +14,15 @@ use Rattle.code.specs.declared.Opened.{Opened}
 use Rattle.code.specs.declared.Refusal.{Refusal}
 use Rattle.code.specs.declared.Standing.{Standing}
 use Rattle.code.specs.declared.Standing.the-variants as standing
-use Rattle.code.specs.declared.Judged.{Judged}
-use Rattle.code.specs.declared.Judged.the-variants.{Accepted}
-use Rattle.code.specs.Judge.{judgeIn}
-use Rattle.code.specs.Rule.{matrixOf, Limits, Hsiao}
+use Rattle.judge.specs.declared.Judged.{Judged}
+use Rattle.judge.specs.declared.Judged.the-variants.{Accepted}
+use Rattle.judge.specs.Judge.{judgeIn}
+use Rattle.code.specs.Rule.{matrixOf}
+use Rattle.judge.specs.Rule.{Limits, Hsiao}
 use Rattle.code.specs.Opened.{standingOf, judgementBy, laidOut, openedBy, openedOf, columnsOf}
 use Rattle.code.proofs.Laying.{laid-columns}
 use Rattle.code.proofs.Numbers.{zero-accepts}
-use Rattle.code.proofs.Table.{judge-rule}
+use Rattle.judge.proofs.Table.{judge-rule}
 use Rattle.sound.proofs.Hsiao.{accepted-sound}
 use Rattle.desk.specs.Answers.{judgementOf}
 use Rattle.demands.specs.Definitions as words

@@ -8,8 +8,8 @@ use lib.IntN.{pos, _+ℤ_}
 use lib.ListN.{getD}
 use Rattle.parity.proofs.Ones.{below-or-not}
 use Rattle.code.specs.declared.Code.{Code}
-use Rattle.code.specs.declared.Judged.the-variants as judged
-use Rattle.code.specs.Rule.{Limits}
+use Rattle.judge.specs.declared.Judged.the-variants as judged
+use Rattle.judge.specs.Rule.{Limits}
 use Rattle.code.specs.Opened.{openedOf}
 use Rattle.wanted.specs.declared.CheckBits.{CheckBits}
 use Rattle.wanted.specs.Wanted.{bandOf}

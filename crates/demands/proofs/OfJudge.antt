@@ -7,13 +7,14 @@ use lib.ListN.{length, take}
 use lib.Seq.{length-take-le}
 use Rattle.code.specs.declared.Code.{Code}
 use Rattle.code.specs.declared.Refusal.{Refusal}
-use Rattle.code.specs.declared.Judged.{Judged}
-use Rattle.code.specs.declared.Judged.the-variants.{Accepted, NoData, NoChecks, TooWide, EvenColumn, SingleOne, Repeated, Leftover}
-use Rattle.code.specs.Rule.{matrixOf, SaysOfCode}
+use Rattle.judge.specs.declared.Judged.{Judged}
+use Rattle.judge.specs.declared.Judged.the-variants.{Accepted, NoData, NoChecks, TooWide, EvenColumn, SingleOne, Repeated, Leftover}
+use Rattle.code.specs.Rule.{matrixOf}
+use Rattle.judge.specs.Rule.{SaysOfCode}
 use Rattle.code.specs.Opened.{standingOf, judgementBy}
 use Rattle.code.proofs.Numbers.{judgedBy, known-by}
-use Rattle.code.proofs.Rule.{fine-of}
-use Rattle.code.proofs.Table.{judge-exactly, judge-rule}
+use Rattle.judge.proofs.Rule.{fine-of}
+use Rattle.judge.proofs.Table.{judge-exactly, judge-rule}
 use Rattle.columns.proofs.Singles.{length-joined}
 use Rattle.desk.specs.Answers.{judgementOf}
 use Rattle.demands.specs.Demands as demands

@@ -6,7 +6,8 @@ use lib.Count.{ones}
 use Rattle.parity.specs.Odd.{oddOnes}
 use Rattle.columns.specs.Mix.{column}
 use Rattle.code.specs.declared.Code.{Code}
-use Rattle.code.specs.Rule.{matrixOf, Limits}
+use Rattle.code.specs.Rule.{matrixOf}
+use Rattle.judge.specs.Rule.{Limits}
 use Rattle.code.specs.Opened.{standingOf, judgementBy}
 use Rattle.wanted.specs.declared.CheckBits.{CheckBits}
 use Rattle.wanted.proofs.Bands.{wanted-inside}

@@ -18,8 +18,8 @@ use Rattle.code.specs.declared.Standing.{Standing}
 use Rattle.code.specs.declared.Standing.the-variants as standing
 use Rattle.code.specs.Opened.{judgementBy, openedOf, columnsOf, Laid}
 use Rattle.code.proofs.Laid.{laid-in, refused-no-acceptance}
-use Rattle.code.proofs.Rule.{matrix-below}
-use Rattle.code.proofs.Table.{judge-rule}
+use Rattle.judge.proofs.Rule.{matrix-below}
+use Rattle.judge.proofs.Table.{judge-rule}
 use Rattle.sound.proofs.Hsiao.{sound-code}
 use Rattle.word.specs.declared.Word.{Word}
 use Rattle.verdict.specs.declared.Verdict.{Verdict}

@@ -21,8 +21,9 @@ use Rattle.parity.specs.Odd.{oddOnes}
 use Rattle.columns.specs.Mix.{column, flipped}
 use Rattle.columns.specs.Bits.{bitAt, rowBit}
 use Rattle.code.specs.declared.Code.{Code}
-use Rattle.code.specs.declared.Judged.the-variants as judged
-use Rattle.code.specs.Rule.{matrixOf, Sized, Limits, SaysOfCode}
+use Rattle.judge.specs.declared.Judged.the-variants as judged
+use Rattle.code.specs.Rule.{matrixOf}
+use Rattle.judge.specs.Rule.{Sized, Limits, SaysOfCode}
 use Rattle.balance.specs.Balance.{rowOnes, allOnes, sumℤ}
 use Rattle.record.specs.Bytes.{AllBytes}
 use Rattle.record.specs.Layout.{dataSize, recordSize, entrySize, imageLimit, recordBytes, dataIn, checkIn, Entry, entryBytes, entryIn}

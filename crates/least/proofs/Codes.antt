@@ -11,10 +11,10 @@ use lib.Seq.{getD-append-add, length-take-le, take-at}
 use Rattle.parity.proofs.Ones.{below-or-not}
 use Rattle.columns.specs.Mix.{column, placeIn}
 use Rattle.columns.proofs.Places.{place-hit}
-use Rattle.code.specs.declared.Judged.the-variants.{Accepted}
-use Rattle.code.specs.Judge.{judgeIn}
-use Rattle.code.specs.Rule.{matrix, Limits}
-use Rattle.code.proofs.Table.{judge-rule}
+use Rattle.judge.specs.declared.Judged.the-variants.{Accepted}
+use Rattle.judge.specs.Judge.{judgeIn}
+use Rattle.judge.specs.Rule.{matrix, Limits}
+use Rattle.judge.proofs.Table.{judge-rule}
 use Rattle.balance.specs.Balance.{allOnes}
 use Rattle.make.specs.Order.{inOrder, madeColumns}
 use Rattle.make.specs.Made.{paddedTo}

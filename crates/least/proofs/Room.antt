@@ -13,8 +13,8 @@ use Rattle.parity.specs.Odd.{oddOnes, isOdd}
 use Rattle.parity.proofs.Ones.{below-or-not}
 use Rattle.columns.specs.Mix.{column, singles}
 use Rattle.columns.proofs.Singles.{length-joined}
-use Rattle.code.specs.Rule.{matrix, Hsiao, FineAt}
-use Rattle.code.proofs.Rule.{rule-of, fine-of, matrix-below}
+use Rattle.judge.specs.Rule.{matrix, Hsiao, FineAt}
+use Rattle.judge.proofs.Rule.{rule-of, fine-of, matrix-below}
 use Rattle.balance.specs.Balance.{sumOf, allOnes}
 use Rattle.make.specs.Order.{passing, inOrder, madeColumns}
 use Rattle.least.specs.Order.{DataColumn}

@@ -10,7 +10,7 @@ use lib.Count.{ones, onesIn}
 use lib.Dec.{eqb, ltb}
 use lib.ListN.{replicate}
 use Rattle.parity.proofs.Ones.{below-or-not}
-use Rattle.code.specs.Rule.{Sized, Limits}
+use Rattle.judge.specs.Rule.{Sized, Limits}
 use Rattle.make.specs.declared.Made.{Made}
 use Rattle.make.specs.Order.{passingFrom, byOnes, madeColumns}
 use Rattle.make.specs.Made.{makeNumber, placesBy, makingBy, makeOf}

@@ -17,7 +17,7 @@ use Rattle.runs.proofs.Entries.{in-bytes-append}
 use Rattle.runs.proofs.Image as runs
 use Rattle.code.specs.declared.Opened.{Opened}
 use Rattle.code.specs.declared.Standing.the-variants as standing
-use Rattle.code.specs.Judge.{judgeColumn, judgeFrom, judgeColumns, judgeRest, leftoverFrom, judgeIn}
+use Rattle.judge.specs.Judge.{judgeColumn, judgeFrom, judgeColumns, judgeRest, leftoverFrom, judgeIn}
 use Rattle.code.specs.Opened.{openedOf}
 use Rattle.code.specs.Sample.{sampleCode}
 use Rattle.code.proofs.Laid.{refused-no-acceptance}

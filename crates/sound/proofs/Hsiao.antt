@@ -15,14 +15,14 @@ use Rattle.columns.proofs.Singles.{length-joined, length-singles, single-at}
 use Rattle.code.specs.declared.Code.{Code}
 use Rattle.code.specs.declared.Standing.{Standing}
 use Rattle.code.specs.declared.Standing.the-variants as standing
-use Rattle.code.specs.declared.Judged.the-variants.{Accepted}
-use Rattle.code.specs.Judge.{judgeIn}
-use Rattle.code.specs.Rule.{matrix, Hsiao}
+use Rattle.judge.specs.declared.Judged.the-variants.{Accepted}
+use Rattle.judge.specs.Judge.{judgeIn}
+use Rattle.judge.specs.Rule.{matrix, Hsiao}
 use Rattle.code.specs.Opened.{standingOf, openedBy, openedIn, openedOf, SoundOpened}
 use Rattle.code.proofs.Laid.{accepted-of-standing, refused-no-acceptance}
 use Rattle.code.proofs.Laying.{laid-columns}
-use Rattle.code.proofs.Rule.{matrix-below}
-use Rattle.code.proofs.Table.{judge-rule}
+use Rattle.judge.proofs.Rule.{matrix-below}
+use Rattle.judge.proofs.Table.{judge-rule}
 use Rattle.sound.proofs.Solving.{triangular-reaches, singles-triangular}
 
 -- sound for a sense of odd, so for any other that agrees with it below 2 ^ r

@@ -4,7 +4,7 @@ use mathlib.Core.Bool.{true}
 use lib.Count.{ones, onesIn}
 use Rattle.columns.specs.Mix.{mix, singlesFrom, singles, placeIn}
 use Rattle.columns.specs.Solving.{solveFrom, solve}
-use Rattle.code.specs.Judge.{judgeColumn, judgeFrom, judgeColumns, leftoverFrom, judgeRest, judgeIn}
+use Rattle.judge.specs.Judge.{judgeColumn, judgeFrom, judgeColumns, leftoverFrom, judgeRest, judgeIn}
 use Rattle.balance.specs.Balance.{sumOf, balanceAt, balancesFrom}
 use Rattle.word.specs.Word.{flippedIn}
 use Rattle.verdict.specs.Verdicts.{verdictOn}

@@ -3,10 +3,10 @@ use mathlib.Core.Path.{sym, ap, _∙_}
 use native.Mathlib.Omega.{arith}
 use lib.ListN.{length, take}
 use lib.Seq.{length-take-le}
-use Rattle.code.specs.Rule.{matrix, Limits}
+use Rattle.judge.specs.Rule.{matrix, Limits}
 use Rattle.parity.specs.Odd.{allRows}
 use Rattle.code.specs.Opened.{standingOf, closed, laidOut, openedBy}
-use Rattle.code.proofs.Table.{judge-rule}
+use Rattle.judge.proofs.Table.{judge-rule}
 use Rattle.code.proofs.Laying.{closes}
 use borrow.Author.Needs.{needs}
 use Rattle.code.proofs.open_in.Statement.{statement}

@@ -5,7 +5,7 @@ use Prim.Native.Nat.{ℕ, _≤_}
 use borrow.Author.Needs.{needs}
 use lib.ListN.{length, take, drop}
 use lib.Seq.{length-take-le}
-use Rattle.code.specs.Rule.{Limits}
+use Rattle.judge.specs.Rule.{Limits}
 use Rattle.make.specs.Order.{inOrder}
 use Rattle.make.specs.Made.{putFrom}
 use Rattle.make.proofs.Exactly.{done-exactly, refused-places}

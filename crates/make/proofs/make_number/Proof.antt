@@ -4,7 +4,7 @@ use mathlib.Core.Logic.{inl, inr}
 use Prim.Native.Nat.{_-_, _*_, _%_, _^_}
 use native.Mathlib.Omega.{arith}
 use Rattle.columns.proofs.Words.{shl-one}
-use Rattle.code.specs.Rule.{Sized, Limits}
+use Rattle.judge.specs.Rule.{Sized, Limits}
 use Rattle.make.proofs.Exactly.{no-data, no-checks, no-room, has-room}
 use Rattle.make.proofs.Walk.{rows-fit}
 use Rattle.make.proofs.make_number.Statement.{statement}

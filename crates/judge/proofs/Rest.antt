@@ -10,10 +10,10 @@ use lib.Dec.{eqb}
 use lib.ListN.{length}
 use Rattle.parity.proofs.Ones.{below-or-not}
 use Rattle.columns.specs.Mix.{column}
-use Rattle.code.specs.declared.Judged.{Judged}
-use Rattle.code.specs.declared.Judged.the-variants.{Accepted, NoData, NoChecks, TooWide, EvenColumn, SingleOne, Repeated, Leftover}
-use Rattle.code.specs.Judge.{leftoverFrom, judgeRest}
-use Rattle.code.specs.Rule.{Empty, LeftAt}
+use Rattle.judge.specs.declared.Judged.{Judged}
+use Rattle.judge.specs.declared.Judged.the-variants.{Accepted, NoData, NoChecks, TooWide, EvenColumn, SingleOne, Repeated, Leftover}
+use Rattle.judge.specs.Judge.{leftoverFrom, judgeRest}
+use Rattle.judge.specs.Rule.{Empty, LeftAt}
 
 -- ---- in plain numbers: behind two columns, the first of two leftovers is told, and one in the last place is seen
 

@@ -1,13 +1,13 @@
--- `code::judge_rest` meets its contract. The invariant: what the places from i on are answered is what all past k are. Assumes nothing.
+-- `judge::judge_rest` meets its contract. The invariant: what the places from i on are answered is what all past k are. Assumes nothing.
 use mathlib.Core.Path.{_≡_, refl, sym, _∙_}
 use Prim.Native.Nat.{_-_}
 use native.Mathlib.Omega.{arith}
 use borrow.Author.Needs.{needs}
 use lib.ListN.{length}
-use Rattle.code.specs.Judge.{leftoverFrom, judgeRest}
-use Rattle.code.proofs.Steps.{rest-step, rest-left, rest-end}
-use Rattle.code.proofs.judge_rest.Statement.{statement}
-use Rattle.code.proofs.judge_rest.Tie as tie
+use Rattle.judge.specs.Judge.{leftoverFrom, judgeRest}
+use Rattle.judge.proofs.Steps.{rest-step, rest-left, rest-end}
+use Rattle.judge.proofs.judge_rest.Statement.{statement}
+use Rattle.judge.proofs.judge_rest.Tie as tie
 
 abbrev Inv-loop : tie.InvT-loop
 Inv-loop places k i₀ i = leftoverFrom places (length places - i) i ≡ judgeRest places k
