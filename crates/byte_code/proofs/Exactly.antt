@@ -2,8 +2,9 @@
 use mathlib.Core.Path.{_≡_, refl}
 use Prim.Native.Nat.{ℕ, _≤_, _<_}
 use borrow.Author.Tests.{le-leb, lt-leb}
-use Rattle.byte_code.specs.Vectors.{timesT, powerT}
-use Rattle.byte_code.specs.Parts.{sumTo, partsOf, byteWord}
+use Rattle.byte_parts.specs.Vectors.{timesT, powerT}
+use Rattle.byte_parts.specs.Parts.{sumTo, partsOf}
+use Rattle.byte_code.specs.Reading.{byteWord}
 use Rattle.byte_code.specs.Reading.{solutionIn, readBy, byteWritingOf, byteReadingOf}
 
 -- ---- refusals

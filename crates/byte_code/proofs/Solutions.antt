@@ -4,7 +4,7 @@ use mathlib.Core.Bool.{true, false}
 use Prim.Native.Nat.{ℕ, suc, _+_, _-_, _≤_, _<_}
 use native.Mathlib.Omega.{arith}
 use native.Mathlib.Numerals.{add-one}
-use Rattle.byte_code.specs.declared.Parts.{Parts}
+use Rattle.byte_parts.specs.declared.Parts.{Parts}
 use Rattle.byte_code.specs.Reading.{solves, solutionIn}
 
 pub solution-here : (s : Parts) (n i : ℕ) → i < n → solves s i ≡ true → solutionIn s (n - i) i ≡ i

@@ -4,7 +4,7 @@ use mathlib.Core.Bool.{Bool, true, false, _&&_}
 use Prim.Native.Nat.{ℕ, _≤_, _<_}
 use lib.Dec.{eqb}
 use borrow.Author.Tests.{lt-ltb, le-ltb}
-use Rattle.byte_code.specs.declared.Parts.{Parts}
+use Rattle.byte_parts.specs.declared.Parts.{Parts}
 use Rattle.byte_code.specs.Reading.{byteNumber, asRead, putRight, bothZero, solutionIn, readBy}
 
 -- the tests of steps 1 and 2

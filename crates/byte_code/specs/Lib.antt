@@ -1,3 +1,1 @@
-pub mod Vectors
-pub mod Parts
 pub mod Reading

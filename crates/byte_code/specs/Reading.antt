@@ -1,18 +1,22 @@
 -- Writing and reading under the byte-correcting code: document 02, request 114, and the three steps of source document 000, with seven
 -- data bytes. Assumes nothing.
 use mathlib.Core.Bool.{Bool, cond, _&&_}
-use Prim.Native.Nat.{ℕ, zero, suc, _*_, _^_}
+use Prim.Native.Nat.{ℕ, zero, suc, _+_, _*_, _^_}
 use lib.Bits.{bitXor}
 use lib.Dec.{eqb, ltb, leb}
 use Rattle.byte_code.specs.declared.ByteNumber.{ByteNumber}
-use Rattle.byte_code.specs.declared.Parts.{Parts}
+use Rattle.byte_parts.specs.declared.Parts.{Parts}
 use Rattle.byte_code.specs.declared.ByteWriting.{ByteWriting}
 use Rattle.byte_code.specs.declared.ByteReading.{ByteReading}
-use Rattle.byte_code.specs.Vectors.{powerT}
-use Rattle.byte_code.specs.Parts.{partsOf, byteWord}
+use Rattle.byte_parts.specs.Vectors.{powerT}
+use Rattle.byte_parts.specs.Parts.{dataSum, partsOf}
 
 abbrev pub byteNumber : ℕ → ByteNumber
 byteNumber t = record { 0 = t }
+
+-- data bits 0 to 20, and the check bytes that make the three parts zero
+unfoldable pub byteWord : ℕ → ℕ
+byteWord low = low + 2 ^ 21 * dataSum 0 low + 2 ^ 24 * dataSum 1 low + 2 ^ 27 * dataSum 2 low
 
 -- ---- the rows of an answer
 

@@ -1,21 +1,12 @@
-// The byte-correcting code with bytes of three bits: seven data bytes, three check bytes. A vector of three bits is a number below 8, its
-// lowest bit the top of the vector.
+// The byte-correcting code with bytes of three bits: seven data bytes, three check bytes.
 ghost use mathlib.Core.Path.{_≡_};
-ghost use Prim.Native.Nat.{_≤_, _<_};
-ghost use Rattle.byte_code.specs.Vectors as vectors;
-ghost use Rattle.byte_code.specs.Parts as parts;
+ghost use Prim.Native.Nat.{_<_};
 ghost use Rattle.byte_code.specs.Reading as specs;
+use byte_parts::Parts;
 
 // The number of a byte: a kind of its own, so that it is not taken for a place.
 #[repr(C)]
 pub struct ByteNumber(pub usize);
-
-// The three parts of a syndrome.
-pub struct Parts {
-    pub first: u64,
-    pub second: u64,
-    pub third: u64,
-}
 
 // The answer to writing: the whole word.
 #[repr(C)]
@@ -35,73 +26,13 @@ pub struct ByteReading {
     pub word: u64,
 }
 
-// T takes (b0, b1, b2) to (b2, b0 + b2, b1), sums without carry.
-fn times_t(v: u64) -> u64
-    requires { ⌜ v < 8 ⌝ }
-    ensures { λ u. ⌜ u ≡ vectors.timesT v ⌝ }
-    ensures { λ u. ⌜ u < 8 ⌝ }
-{
-    let b0 = v % 2;
-    let b1 = v / 2 % 2;
-    let b2 = v / 4;
-    b2 + (b0 + b2) % 2 * 2 + b1 * 4
-}
-
-// The i-th power of T, times a vector.
-fn power_t(i: usize, v: u64) -> u64
-    requires { ⌜ v < 8 ⌝ }
-    ensures { λ u. ⌜ u ≡ vectors.powerT i v ⌝ }
-    ensures { λ u. ⌜ u < 8 ⌝ }
-{
-    let mut u = v;
-    let mut j = 0;
-    while j < i {
-        u = times_t(u);
-        j += 1;
-    }
-    u
-}
-
-// Byte t of a word.
-fn byte_at(word: u64, t: usize) -> u64
-    requires { ⌜ t < 10 ⌝ }
-    ensures { λ v. ⌜ v ≡ parts.byteAt word t ⌝ }
-{
-    (word >> (3 * t)) % 8
-}
-
-// The sum over the seven data bytes, byte t under the power `step` times t of T.
-fn data_sum(step: usize, word: u64) -> u64
-    requires { ⌜ step ≤ 2 ⌝ }
-    ensures { λ v. ⌜ v ≡ parts.dataSum step word ⌝ }
-    ensures { λ v. ⌜ v < 8 ⌝ }
-{
-    let mut sum: u64 = 0;
-    let mut t = 0;
-    while t < 7 {
-        sum = sum ^ power_t(step * t, byte_at(word, t));
-        t += 1;
-    }
-    sum
-}
-
-fn parts_of(word: u64) -> Parts
-    ensures { λ s. ⌜ s ≡ parts.partsOf word ⌝ }
-{
-    Parts {
-        first: data_sum(0, word) ^ byte_at(word, 7),
-        second: data_sum(1, word) ^ byte_at(word, 8),
-        third: data_sum(2, word) ^ byte_at(word, 9),
-    }
-}
-
 // What step 3 asks of i: the error is part 1, and its powers of T are parts 2 and 3.
 fn solves(s: Parts, i: usize) -> bool
     requires { ⌜ s .first < 8 ⌝ }
     requires { ⌜ i < 7 ⌝ }
     ensures { λ b. ⌜ b ≡ specs.solves s i ⌝ }
 {
-    (power_t(i, s.first) == s.second) & (power_t(2 * i, s.first) == s.third)
+    (byte_parts::power_t(i, s.first) == s.second) & (byte_parts::power_t(2 * i, s.first) == s.third)
 }
 
 // The data byte that step 3 finds, or 7 where it finds none.
@@ -192,9 +123,9 @@ pub fn write(data: u64) -> ByteWriting
             word: 0,
         };
     }
-    let first = data_sum(0, data) * 2097152;
-    let second = data_sum(1, data) * 16777216;
-    let third = data_sum(2, data) * 134217728;
+    let first = byte_parts::data_sum(0, data) * 2097152;
+    let second = byte_parts::data_sum(1, data) * 16777216;
+    let third = byte_parts::data_sum(2, data) * 134217728;
     ByteWriting {
         number: 0,
         told: 0,
@@ -215,5 +146,5 @@ pub fn read(word: u64) -> ByteReading
             word: 0,
         };
     }
-    read_by(parts_of(word), word)
+    read_by(byte_parts::parts_of(word), word)
 }

@@ -7,12 +7,13 @@ use borrow.Author.Tests.{ne-eqb}
 use lib.Bits.{bitXor, xor-lt, xor-comm, xor-zero-r}
 use Rattle.parity.proofs.Xor.{xor-cancel, xor-swap, xor-undo-r, eq-of-xor-zero, xor-zero-of-eq}
 use Rattle.parity.proofs.Ones.{below-or-not}
-use Rattle.byte_code.specs.declared.Parts.{Parts}
+use Rattle.byte_parts.specs.declared.Parts.{Parts}
 use Rattle.byte_code.specs.declared.ByteReading.{ByteReading}
-use Rattle.byte_code.specs.Vectors.{powerT}
-use Rattle.byte_code.specs.Parts.{partsOf, byteWord}
+use Rattle.byte_parts.specs.Vectors.{powerT}
+use Rattle.byte_parts.specs.Parts.{partsOf}
+use Rattle.byte_code.specs.Reading.{byteWord}
 use Rattle.byte_code.specs.Reading.{byteNumber, asRead, putRight, readBy}
-use Rattle.byte_code.proofs.Vectors.{power-lt}
+use Rattle.byte_parts.proofs.Vectors.{power-lt}
 use Rattle.byte_code.proofs.Steps.{NoCheck, row-seven, row-eight, row-nine}
 use Rattle.byte_errors.specs.Steps.{damaged, DataError, NoStep}
 use Rattle.byte_errors.proofs.Powers.{sumPower, power-zero, power-xor, power-twice, power-apart, power-nonzero, power-same, sum-twice, twice-apart}

@@ -8,9 +8,9 @@ use lib.Bits.{bitXor, xor-shr, xor-mod, xor-zero-r}
 use lib.Pow.{pow-add, pow-mono, shl-lt, shl-shr}
 use Rattle.parity.proofs.Xor.{xor-swap}
 use Rattle.parity.proofs.Ones.{below-or-not}
-use Rattle.byte_code.specs.declared.Parts.{Parts}
-use Rattle.byte_code.specs.Vectors.{powerT}
-use Rattle.byte_code.specs.Parts.{byteAt, sumTo, partsOf}
+use Rattle.byte_parts.specs.declared.Parts.{Parts}
+use Rattle.byte_parts.specs.Vectors.{powerT}
+use Rattle.byte_parts.specs.Parts.{byteAt, sumTo, partsOf}
 use Rattle.byte_errors.proofs.Powers.{power-none, power-xor, power-zero}
 
 -- ---- linear

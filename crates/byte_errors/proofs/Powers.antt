@@ -11,8 +11,8 @@ use lib.Dec.{eqb, lit<}
 use borrow.Author.Tests.{eqb-true, ne-eqb}
 use Rattle.parity.proofs.Xor.{xor-assoc, xor-undo, eq-of-xor-zero, xor-zero-of-eq}
 use Rattle.parity.proofs.Tested.{both, allBelow, all-at}
-use Rattle.byte_code.specs.Vectors.{timesT, powerT}
-use Rattle.byte_code.proofs.Vectors.{power-lt}
+use Rattle.byte_parts.specs.Vectors.{timesT, powerT}
+use Rattle.byte_parts.proofs.Vectors.{power-lt}
 
 -- ---- computed
 

@@ -8,12 +8,12 @@ use borrow.Author.Tests.{eq-eqb, eqb-true}
 use lib.Dec.{eqb}
 use Rattle.parity.proofs.Ones.{below-or-not}
 use Rattle.parity.proofs.Tested.{both}
-use Rattle.byte_code.specs.declared.Parts.{Parts}
-use Rattle.byte_code.specs.Vectors.{powerT}
+use Rattle.byte_parts.specs.declared.Parts.{Parts}
+use Rattle.byte_parts.specs.Vectors.{powerT}
 use Rattle.byte_code.specs.Reading.{byteNumber, asRead, putRight, bothZero, solves, solutionIn, readBy}
 use Rattle.byte_code.proofs.Steps.{zeroSyndrome, NoCheck, row-clean, row-seven, row-eight, row-nine, row-data, row-flagged}
 use Rattle.byte_errors.specs.Steps.{NoError, CheckError, DataError, NoStep}
-use Rattle.byte_code.specs.Parts.{partsOf}
+use Rattle.byte_parts.specs.Parts.{partsOf}
 use Rattle.byte_errors.proofs.Linear.{parts-data, parts-seven, parts-eight, parts-nine}
 use Rattle.byte_errors.proofs.Powers.{power-zero, power-apart}
 

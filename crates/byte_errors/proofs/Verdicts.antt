@@ -4,12 +4,12 @@ use mathlib.Core.Logic.{_≢_, _⊎_, inl, inr, _↔_}
 use Prim.Native.Nat.{ℕ, _*_, _^_, _<_}
 use native.Mathlib.Omega.{arith}
 use lib.Bits.{bitXor, xor-lt, xor-self, xor-zero-r}
-use Rattle.byte_code.specs.declared.Parts.{Parts}
+use Rattle.byte_parts.specs.declared.Parts.{Parts}
 use Rattle.byte_code.specs.declared.ByteNumber.{ByteNumber}
 use Rattle.byte_code.specs.declared.ByteReading.{ByteReading}
-use Rattle.byte_code.specs.Parts.{byteAt, partsOf}
+use Rattle.byte_parts.specs.Parts.{byteAt, partsOf}
 use Rattle.byte_code.specs.Reading.{byteNumber, putRight, readBy}
-use Rattle.byte_code.proofs.Sums.{first-lt, second-lt, third-lt}
+use Rattle.byte_parts.proofs.Sums.{first-lt, second-lt, third-lt}
 use Rattle.byte_errors.specs.Steps.{NoError, CheckError, DataError, NoStep}
 use Rattle.byte_errors.proofs.Linear.{byte-xor, pattern-lt, pattern-elsewhere, xorParts, parts-xor, threeParts}
 use Rattle.byte_errors.proofs.Steps.{Vectors, Explains, WhichStep, step-1, step-2, step-3, no-step, by-clean, by-check, by-data, by-none, step-of}

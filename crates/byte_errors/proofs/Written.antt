@@ -5,9 +5,10 @@ use native.Mathlib.Omega.{arith}
 use lib.Bits.{bitXor, xor-lt, xor-mod}
 use lib.Pow.{shr-shr, shr-lt}
 use Rattle.parity.proofs.Xor.{eq-of-xor-zero, xor-zero-of-eq}
-use Rattle.byte_code.specs.Vectors.{powerT}
-use Rattle.byte_code.specs.Parts.{byteAt, sumTo, dataSum, partsOf, byteWord}
-use Rattle.byte_code.proofs.Sums.{sum-lt}
+use Rattle.byte_parts.specs.Vectors.{powerT}
+use Rattle.byte_parts.specs.Parts.{byteAt, sumTo, dataSum, partsOf}
+use Rattle.byte_code.specs.Reading.{byteWord}
+use Rattle.byte_parts.proofs.Sums.{sum-lt}
 use Rattle.byte_errors.specs.Steps.{NoError}
 use Rattle.byte_errors.proofs.Linear.{xorParts, threeParts, parts-xor, sum-among}
 use Rattle.byte_errors.proofs.Powers.{power-none}

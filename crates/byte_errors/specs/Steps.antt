@@ -3,8 +3,8 @@ use mathlib.Core.Path.{_≡_}
 use mathlib.Core.Logic.{_⊎_, _≢_}
 use Prim.Native.Nat.{ℕ, _*_, _^_, _<_}
 use lib.Bits.{bitXor}
-use Rattle.byte_code.specs.declared.Parts.{Parts}
-use Rattle.byte_code.specs.Vectors.{powerT}
+use Rattle.byte_parts.specs.declared.Parts.{Parts}
+use Rattle.byte_parts.specs.Vectors.{powerT}
 
 -- a word with the bits of a pattern flipped in byte t
 abbrev pub damaged : ℕ → ℕ → ℕ → ℕ

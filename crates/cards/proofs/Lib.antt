@@ -2,4 +2,3 @@ pub mod Search
 pub mod Masks
 pub mod Parts
 pub mod Walk
-pub mod Checking

@@ -1,3 +1,2 @@
 pub mod Cards
 pub mod Rule
-pub mod Checking

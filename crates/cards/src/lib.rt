@@ -1,13 +1,8 @@
-// The card check: over a part of a word's places, and of a whole code.
+// The cards of a code, and the search for the first weak one.
 ghost use mathlib.Core.Path.{_≡_};
 ghost use Prim.Native.Nat.{_+_, _≤_, _<_};
 ghost use lib.ListN.{length, take, drop};
-ghost use Rattle.code.specs.Opened.{Laid};
 ghost use Rattle.cards.specs.Cards.{cardsIn, cut, allCards, weakMask, weakMaskIn, weakCardIn};
-ghost use Rattle.cards.specs.Checking.{refusedCards, cardedIn, cardedOf};
-use code::Opened;
-use code::Refusal;
-use code::Standing;
 
 // What a search finds: a card's number, and a mask of it that breaks the rule.
 pub enum Found {
@@ -84,7 +79,7 @@ fn weak_card_in(columns: &[u16], start: usize, end: usize, b: usize, first: usiz
 }
 
 // The first weak card of a code with k data places: its data cards, then its check cards, whose numbers run on.
-fn first_weak(columns: &[u16], k: usize, b: usize) -> Found
+pub fn first_weak(columns: &[u16], k: usize, b: usize) -> Found
     requires { ⌜ (1 ≤ b) × (b ≤ 8) × (k ≤ length (now columns)) × (length (now columns) ≤ 1024) ⌝ }
     ensures { λ a. ⌜ a ≡ weakCardIn (now (columns .entry)) 0 (allCards b k (now (columns .entry))) ⌝ }
 {
@@ -93,58 +88,4 @@ fn first_weak(columns: &[u16], k: usize, b: usize) -> Found
         return found;
     };
     weak_card_in(columns, k, columns.len(), b, cards_in(b, k))
-}
-
-// The answer to the card question: the first weak card and its smallest mask, where the number is 9.
-#[repr(C)]
-pub struct CardCheck {
-    pub number: usize,
-    pub told: usize,
-    pub card: usize,
-    pub mask: usize,
-}
-
-fn refused_cards(refusal: Refusal) -> CardCheck
-    ensures { λ a. ⌜ a ≡ refusedCards refusal ⌝ }
-{
-    CardCheck {
-        number: refusal.number,
-        told: refusal.told,
-        card: 0,
-        mask: 0,
-    }
-}
-
-// The n columns of a code with k data places: the size of a card, then what the search finds.
-fn check_in(columns: &[u16], k: usize, b: usize) -> CardCheck
-    requires { ⌜ (k ≤ length (now columns)) × (length (now columns) ≤ 1024) ⌝ }
-    ensures { λ a. ⌜ a ≡ cardedIn (now (columns .entry)) k b ⌝ }
-{
-    match b {
-        2..=8 => match first_weak(columns, k, b) {
-            Found::Nothing => refused_cards(Refusal { number: 0, told: 0 }),
-            Found::At(card, mask) => CardCheck {
-                number: 9,
-                told: 0,
-                card,
-                mask,
-            },
-        },
-        _ => refused_cards(Refusal { number: 8, told: 0 }),
-    }
-}
-
-// Whether an opened code is card-proof for cards of b places.
-pub fn card_check(opened: Opened, b: usize) -> CardCheck
-    requires { ⌜ Laid opened ⌝ }
-    ensures { λ a. ⌜ a ≡ cardedOf opened b ⌝ }
-{
-    let standing = opened.standing;
-    if let Standing::Refused(refusal) = standing {
-        return refused_cards(refusal);
-    }
-    let n = opened.n;
-    let k = opened.k;
-    let columns = opened.columns;
-    check_in(&columns[..n], k, b)
 }

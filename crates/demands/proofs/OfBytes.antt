@@ -6,9 +6,10 @@ use native.Mathlib.Omega.{arith}
 use lib.Bits.{bitXor, xor-lt}
 use lib.Dec.{lit<}
 use Rattle.byte_code.specs.declared.ByteReading.{ByteReading}
-use Rattle.byte_code.specs.Parts.{partsOf, byteWord}
+use Rattle.byte_parts.specs.Parts.{partsOf}
+use Rattle.byte_code.specs.Reading.{byteWord}
 use Rattle.byte_code.specs.Reading.{byteNumber, readBy}
-use Rattle.byte_code.proofs.Vectors.{t-by-bits}
+use Rattle.byte_parts.proofs.Vectors.{t-by-bits}
 use Rattle.byte_code.proofs.Exactly.{write-refused, write-done, read-refused, read-done, words-written, words-mended, words-flagged}
 use Rattle.byte_errors.specs.Steps.{damaged, NoError, CheckError, DataError, NoStep}
 use Rattle.byte_errors.proofs.Powers.{inverse, order-seven, order-least, sum-inverted}

@@ -13,12 +13,12 @@ use Rattle.code.specs.declared.Code.{Code}
 use Rattle.code.specs.Rule.{matrixOf}
 use Rattle.code.specs.Opened.{openedOf}
 use Rattle.verdict.specs.declared.Verdict.the-variants.{Even, Odd}
-use Rattle.cards.specs.declared.CardCheck.{CardCheck}
+use Rattle.card_check.specs.declared.CardCheck.{CardCheck}
 use Rattle.cards.specs.Cards.{cardsIn, cardAt}
 use Rattle.cards.specs.Rule.{CardProof, flipMask}
-use Rattle.cards.specs.Checking.{CardSize}
+use Rattle.card_check.specs.Checking.{CardSize}
 use Rattle.cards.proofs.Parts.{all-counted, data-card, check-card}
-use Rattle.cards.proofs.Checking.{carded-refused, carded-size, proof-told, weak-told, proof-or-weak}
+use Rattle.card_check.proofs.Checking.{carded-refused, carded-size, proof-told, weak-told, proof-or-weak}
 use Rattle.shields.proofs.Flagged.{card-stays, card-flagged}
 use Rattle.mending.proofs.Reading.{data-inside}
 use Rattle.desk.specs.Answers.{judgementOf, cardsOf}

@@ -17,7 +17,7 @@ use Rattle.writing.specs.declared.CheckWord.{CheckWord}
 use Rattle.word.specs.Word.{wordOf, dataOf, checkOf}
 use Rattle.explain.specs.declared.Listing.{Listing}
 use Rattle.explain.specs.Explanations as explaining
-use Rattle.cards.specs.declared.CardCheck.{CardCheck}
+use Rattle.card_check.specs.declared.CardCheck.{CardCheck}
 use Rattle.cards.specs.Cards.{Card, allCards}
 use Rattle.record.specs.declared.Tally.{Tally}
 use Rattle.record.specs.Layout.{dataSize, recordSize, entrySize, dataIn, checkIn, Entry}

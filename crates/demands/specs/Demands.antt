@@ -40,8 +40,8 @@ use Rattle.passes.specs.Twice.{added, tallyAgain}
 use Rattle.sheet.specs.Sheets.{Asked}
 use Rattle.sheet.specs.Rule.{NoSheet, Stands, Within}
 use Rattle.sheets.specs.Nearest.{zeroFloat, oneFloat, Held, NearestOnly}
-use Rattle.byte_code.specs.Vectors.{timesT, powerT}
-use Rattle.byte_code.specs.Parts.{byteAt, partsOf}
+use Rattle.byte_parts.specs.Vectors.{timesT, powerT}
+use Rattle.byte_parts.specs.Parts.{byteAt, partsOf}
 use Rattle.byte_code.specs.Reading.{byteNumber}
 use Rattle.byte_errors.specs.Steps.{damaged, NoError, CheckError, DataError, NoStep}
 use Rattle.desk.specs.Answers.{checkBitsOf, judgementOf, rowsOf, writtenOf, readOf, explainedOf, cardsOf, byteWritten, byteRead}

@@ -17,8 +17,8 @@ use Rattle.writing.specs.Writing.{writingOf}
 use Rattle.reading.specs.Reading.{readingOf}
 use Rattle.record.specs.Layout.{dataSize}
 use Rattle.explain.specs.Explanations.{Explained, explainOf}
-use Rattle.cards.specs.declared.CardCheck.{CardCheck}
-use Rattle.cards.specs.Checking.{cardedOf}
+use Rattle.card_check.specs.declared.CardCheck.{CardCheck}
+use Rattle.card_check.specs.Checking.{cardedOf}
 use Rattle.asked.specs.Pass.{Pass, State}
 use Rattle.pass.specs.Pass.{After, afterPass}
 use Rattle.put_back.specs.Back.{Returned}

@@ -9,7 +9,7 @@ ghost use Rattle.desk.specs.Answers.{putBackOf};
 use balance::RowBalance;
 use byte_code::ByteReading;
 use byte_code::ByteWriting;
-use cards::CardCheck;
+use card_check::CardCheck;
 use code::Code;
 use code::Refusal;
 use explain::Listing;
@@ -124,7 +124,7 @@ pub extern "C" fn desk_explain(
 pub extern "C" fn desk_cards(code: Code, b: usize) -> CardCheck
     ensures { λ a. ⌜ a ≡ cardsOf code b ⌝ }
 {
-    cards::card_check(code::open_code(code), b)
+    card_check::card_check(code::open_code(code), b)
 }
 
 // A pass with a stamp over the records of an image from `start` up to `end`, with `used` entries of the journal in use: the count in use

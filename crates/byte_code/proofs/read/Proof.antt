@@ -4,7 +4,7 @@ use Prim.Native.Nat.{_^_}
 use native.Mathlib.Omega.{arith}
 use borrow.Author.Tests.{le-leb, lt-leb}
 use Rattle.byte_code.specs.Reading.{readBy, byteReadingOf}
-use Rattle.byte_code.proofs.Sums.{first-lt, second-lt, third-lt}
+use Rattle.byte_parts.proofs.Sums.{first-lt, second-lt, third-lt}
 use borrow.Author.Needs.{needs}
 use Rattle.byte_code.proofs.read.Statement.{statement}
 use Rattle.byte_code.proofs.read.Tie as tie

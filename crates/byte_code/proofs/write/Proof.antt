@@ -3,7 +3,7 @@ use mathlib.Core.Path.{_≡_, ap}
 use Prim.Native.Nat.{_+_, _*_, _^_}
 use native.Mathlib.Omega.{arith}
 use borrow.Author.Tests.{le-leb, lt-leb}
-use Rattle.byte_code.specs.Parts.{byteWord}
+use Rattle.byte_code.specs.Reading.{byteWord}
 use Rattle.byte_code.specs.Reading.{wrote, byteWritingOf}
 use borrow.Author.Needs.{needs}
 use Rattle.byte_code.proofs.write.Statement.{statement}

@@ -1,6 +1,6 @@
 -- `desk::desk_cards` meets its contract: an opening, and the question. Assumes nothing.
 use mathlib.Core.Path.{ap, _∙_}
-use Rattle.cards.specs.Checking.{cardedOf}
+use Rattle.card_check.specs.Checking.{cardedOf}
 use borrow.Author.Needs.{needs}
 use Rattle.desk.proofs.desk_cards.Statement.{statement}
 use Rattle.desk.proofs.desk_cards.Tie as tie

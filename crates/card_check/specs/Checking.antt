@@ -8,10 +8,10 @@ use Rattle.code.specs.declared.Refusal.{Refusal}
 use Rattle.code.specs.declared.Standing.{Standing}
 use Rattle.code.specs.declared.Standing.the-variants as standing
 use Rattle.code.specs.Opened.{only, columnsOf}
 use Rattle.cards.specs.declared.Found.{Found}
 use Rattle.cards.specs.declared.Found.the-variants.{Nothing, At}
-use Rattle.cards.specs.declared.CardCheck.{CardCheck}
+use Rattle.card_check.specs.declared.CardCheck.{CardCheck}
 use Rattle.cards.specs.Cards.{allCards, weakCardIn}
 
 -- a size that cards may have
 pub record CardSize (b : ℕ) : Type 0 where

@@ -1,12 +1,12 @@
--- `byte_code::power_t` meets its contract: after j turns it has the j-th power. Assumes nothing.
+-- `byte_parts::power_t` meets its contract: after j turns it has the j-th power. Assumes nothing.
 use mathlib.Core.Path.{_≡_, sym, ap, _∙_}
 use Prim.Native.Nat.{ℕ, _≤_, _<_, _-_}
 use native.Mathlib.Numerals.{add-one}
 use native.Mathlib.Omega.{arith}
 use borrow.Author.Needs.{needs}
-use Rattle.byte_code.specs.Vectors.{timesT, powerT}
-use Rattle.byte_code.proofs.power_t.Statement.{statement}
-use Rattle.byte_code.proofs.power_t.Tie as tie
+use Rattle.byte_parts.specs.Vectors.{timesT, powerT}
+use Rattle.byte_parts.proofs.power_t.Statement.{statement}
+use Rattle.byte_parts.proofs.power_t.Tie as tie
 
 abbrev Inv-loop : tie.InvT-loop
 Inv-loop i v u₀ j₀ u j = (j ≤ i) × (u < 8) × (u ≡ powerT j v)

@@ -2,7 +2,7 @@
 use mathlib.Core.Path.{_≡_, refl, ap, _∙_}
 use Prim.Native.Nat.{ℕ, zero, suc, _+_, _*_, _/_, _%_, _<_}
 use native.Mathlib.Omega.{arith}
-use Rattle.byte_code.specs.Vectors.{timesT, powerT}
+use Rattle.byte_parts.specs.Vectors.{timesT, powerT}
 
 -- T as printed takes (b0, b1, b2) to (b2, b0 + b2, b1)
 pub t-by-bits : (b0 b1 b2 : ℕ) → b0 < 2 → b1 < 2 → b2 < 2

@@ -1,10 +1,10 @@
--- `byte_code::times_t` meets its contract: T bit by bit. Assumes nothing.
+-- `byte_parts::times_t` meets its contract: T bit by bit. Assumes nothing.
 use mathlib.Core.Path.{sym}
 use native.Mathlib.Omega.{arith}
 use borrow.Author.Needs.{needs}
-use Rattle.byte_code.proofs.Vectors.{t-of}
-use Rattle.byte_code.proofs.times_t.Statement.{statement}
-use Rattle.byte_code.proofs.times_t.Tie as tie
+use Rattle.byte_parts.proofs.Vectors.{t-of}
+use Rattle.byte_parts.proofs.times_t.Statement.{statement}
+use Rattle.byte_parts.proofs.times_t.Tie as tie
 
 add-result : tie.Need-add-result
 add-result c = search needs

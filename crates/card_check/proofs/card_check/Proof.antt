@@ -1,12 +1,12 @@
--- `cards::card_check` meets its contract: how the code stands decides. Assumes nothing.
+-- `card_check::card_check` meets its contract: how the code stands decides. Assumes nothing.
 use mathlib.Core.Path.{_≡_, sym, ap, _∙_}
 use native.Mathlib.Omega.{arith}
 use lib.ListN.{length, length-take}
 use lib.Seq.{length-take-le}
-use Rattle.cards.specs.Checking.{cardedAs}
+use Rattle.card_check.specs.Checking.{cardedAs}
 use borrow.Author.Needs.{needs}
-use Rattle.cards.proofs.card_check.Statement.{statement}
-use Rattle.cards.proofs.card_check.Tie as tie
+use Rattle.card_check.proofs.card_check.Statement.{statement}
+use Rattle.card_check.proofs.card_check.Tie as tie
 
 places : (c : tie.After-enum-told) → length (c .before .before .args .opened .columns) ≡ 144
 places c = search needs

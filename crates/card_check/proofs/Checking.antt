@@ -12,13 +12,13 @@ use Rattle.code.specs.declared.Opened.{Opened}
 use Rattle.code.specs.declared.Refusal.{Refusal}
 use Rattle.code.specs.declared.Standing.the-variants as standing
 use Rattle.code.specs.Opened.{columnsOf}
-use Rattle.cards.specs.declared.CardCheck.{CardCheck}
+use Rattle.card_check.specs.declared.CardCheck.{CardCheck}
 use Rattle.cards.specs.declared.Found.{Found}
 use Rattle.cards.specs.declared.Found.the-variants.{Nothing, At}
 use Rattle.cards.specs.Cards.{Card, allCards, weakCardIn}
 use Rattle.cards.specs.Rule.{CardProof, FirstWeak}
-use Rattle.cards.specs.Checking.{CardSize, cardedBy, cardedIn, cardedAs, cardedOf}
+use Rattle.card_check.specs.Checking.{CardSize, cardedBy, cardedIn, cardedAs, cardedOf}
 use Rattle.cards.proofs.Walk.{proof-exactly, weak-exactly}
 
 -- a number alone, and 9 with the card and the mask that it tells
 abbrev pub bare : ℕ → CardCheck

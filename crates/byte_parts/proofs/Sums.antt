@@ -5,9 +5,9 @@ use native.Mathlib.Omega.{arith}
 use native.Mathlib.Numerals.{add-one}
 use lib.Bits.{bitXor, xor-lt}
 use lib.Dec.{lit<}
-use Rattle.byte_code.specs.Vectors.{powerT}
-use Rattle.byte_code.specs.Parts.{byteAt, sumTo, partsOf}
-use Rattle.byte_code.proofs.Vectors.{power-lt}
+use Rattle.byte_parts.specs.Vectors.{powerT}
+use Rattle.byte_parts.specs.Parts.{byteAt, sumTo, partsOf}
+use Rattle.byte_parts.proofs.Vectors.{power-lt}
 
 -- the sum with one byte more
 pub sum-next : (step i w : ℕ) → sumTo step (i + 1) w ≡ bitXor (sumTo step i w) (powerT (step * i) (byteAt w i))

@@ -1,9 +1,9 @@
--- A word of ten bytes of three bits, the three parts of its syndrome (equation 4 of source document 000), and the word that is written.
+-- A word of ten bytes of three bits, and the three parts of its syndrome (equation 4 of source document 000).
 -- Bytes 0 to 6 are data, byte i under powers of T; bytes 7, 8 and 9 are the check bytes of parts 1, 2 and 3. Assumes nothing.
-use Prim.Native.Nat.{ℕ, zero, suc, _+_, _*_, _/_, _%_, _^_}
+use Prim.Native.Nat.{ℕ, zero, suc, _*_, _/_, _%_, _^_}
 use lib.Bits.{bitXor}
-use Rattle.byte_code.specs.declared.Parts.{Parts}
-use Rattle.byte_code.specs.Vectors.{powerT}
+use Rattle.byte_parts.specs.declared.Parts.{Parts}
+use Rattle.byte_parts.specs.Vectors.{powerT}
 
 -- byte t is bits 3t to 3t + 2
 abbrev pub byteAt : ℕ → ℕ → ℕ
@@ -25,7 +25,3 @@ partsOf w =
       second = bitXor (dataSum 1 w) (byteAt w 8);
       third = bitXor (dataSum 2 w) (byteAt w 9);
     }
-
--- data bits 0 to 20, and the check bytes that make the three parts zero
-unfoldable pub byteWord : ℕ → ℕ
-byteWord low = low + 2 ^ 21 * dataSum 0 low + 2 ^ 24 * dataSum 1 low + 2 ^ 27 * dataSum 2 low

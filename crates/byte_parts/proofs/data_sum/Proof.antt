@@ -1,15 +1,15 @@
--- `byte_code::data_sum` meets its contract: after t turns it has the sum over t bytes. Assumes nothing.
+-- `byte_parts::data_sum` meets its contract: after t turns it has the sum over t bytes. Assumes nothing.
 use mathlib.Core.Path.{_≡_, sym, ap, ap₂, _∙_}
 use Prim.Native.Nat.{ℕ, _*_, _≤_, _-_}
 use native.Mathlib.Nat.{mul-le-mul}
 use native.Mathlib.Omega.{arith}
 use borrow.Author.Needs.{needs}
 use lib.Bits.{bitXor}
-use Rattle.byte_code.specs.Vectors.{powerT}
-use Rattle.byte_code.specs.Parts.{sumTo}
-use Rattle.byte_code.proofs.Sums.{sum-next, sum-lt}
-use Rattle.byte_code.proofs.data_sum.Statement.{statement}
-use Rattle.byte_code.proofs.data_sum.Tie as tie
+use Rattle.byte_parts.specs.Vectors.{powerT}
+use Rattle.byte_parts.specs.Parts.{sumTo}
+use Rattle.byte_parts.proofs.Sums.{sum-next, sum-lt}
+use Rattle.byte_parts.proofs.data_sum.Statement.{statement}
+use Rattle.byte_parts.proofs.data_sum.Tie as tie
 
 abbrev Inv-loop : tie.InvT-loop
 Inv-loop step word sum₀ t₀ sum t = (t ≤ 7) × (sum ≡ sumTo step t word)

@@ -1,8 +1,8 @@
--- `byte_code::parts_of` meets its contract: three sums. Assumes nothing.
+-- `byte_parts::parts_of` meets its contract: three sums. Assumes nothing.
 use borrow.Author.Needs.{needs}
-use Rattle.byte_code.specs.Parts.{partsOf}
-use Rattle.byte_code.proofs.parts_of.Statement.{statement}
-use Rattle.byte_code.proofs.parts_of.Tie as tie
+use Rattle.byte_parts.specs.Parts.{partsOf}
+use Rattle.byte_parts.proofs.parts_of.Statement.{statement}
+use Rattle.byte_parts.proofs.parts_of.Tie as tie
 
 data-sum-requires : tie.Need-data-sum-requires
 data-sum-requires c κs = search needs

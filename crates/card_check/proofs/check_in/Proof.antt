@@ -1,12 +1,12 @@
--- `cards::check_in` meets its contract: the size first, then what the search finds. Assumes nothing.
+-- `card_check::check_in` meets its contract: the size first, then what the search finds. Assumes nothing.
 use mathlib.Core.Path.{sym, _∙_}
 use mathlib.Core.Logic.{inl, inr, ⊎-elim}
 use native.Mathlib.Omega.{arith}
 use Rattle.cards.specs.declared.Found.the-variants.{Nothing}
-use Rattle.cards.proofs.Checking.{size-out, size-fits}
+use Rattle.card_check.proofs.Checking.{size-out, size-fits}
 use borrow.Author.Needs.{needs}
-use Rattle.cards.proofs.check_in.Statement.{statement}
-use Rattle.cards.proofs.check_in.Tie as tie
+use Rattle.card_check.proofs.check_in.Statement.{statement}
+use Rattle.card_check.proofs.check_in.Tie as tie
 
 first-weak-requires : tie.Need-first-weak-requires
 first-weak-requires c κs = search needs
