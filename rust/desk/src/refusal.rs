@@ -110,7 +110,7 @@ refusals! {
     18 Mismatch { count = count "entries put back" },
         "putting back: an entry's record number lies outside the image, or that record does not hold the entry's bytes as \
          left",
-        "the next entry does not match the image; {count} were put back";
+        "an entry does not match the image; put back before it: {count}";
     19 Sheet,
         "device count 0 or over 65,535, word count 0 or over 65,535, mended above words, hours not finite or not above \
          zero, a limit's figure not finite or below zero, a band upside down",
