@@ -7,6 +7,7 @@ use Rattle.demands.proofs.OfWords as words
 use Rattle.demands.proofs.OfLists as lists
 use Rattle.demands.proofs.OfCards as cards
 use Rattle.demands.proofs.OfPasses as passes
+use Rattle.demands.proofs.OfOrders as orders
 use Rattle.demands.proofs.OfSheets as sheets
 use Rattle.demands.proofs.OfMaking as making
 use Rattle.demands.proofs.OfBytes as bytes
@@ -162,6 +163,26 @@ pass-again = passes.pass-again
 
 pub pass-in-two : demands.PassInTwo
 pass-in-two = passes.pass-in-two
+
+-- ---- any order of passes
+
+pub apart-exactly : demands.ApartExactly
+apart-exactly = orders.apart-by-ends
+
+pub order-done : demands.OrderDone
+order-done = orders.order-done
+
+pub any-order : demands.AnyOrder
+any-order = orders.any-order
+
+pub order-tallies : demands.OrderTallies
+order-tallies = orders.order-tallies
+
+pub two-clerks : demands.TwoClerks
+two-clerks = orders.two-clerks
+
+pub shared-record : demands.SharedRecord
+shared-record = orders.shared-record
 
 -- ---- station sheets
 

@@ -8,6 +8,7 @@ pub mod OfLists
 pub mod OfCards
 pub mod OfTallies
 pub mod OfPasses
+pub mod OfOrders
 pub mod OfSheets
 pub mod OfBytes
 pub mod OfPutBack

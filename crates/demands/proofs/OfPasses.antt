@@ -75,7 +75,7 @@ module _ (code : Code) (p : Pass) (s : State) where
       (pass-refused (openedOf code) dataSize p s (judgementOf code) (standing-refused code h))
 
   -- a done pass is one under an accepted code
-  done-number : Done code p s → judgementOf code .number ≡ 0
+  pub done-number : Done code p s → judgementOf code .number ≡ 0
   done-number e =
       ⊎-elim
       (λ (h : judgementOf code .number < 1). omega arith)
@@ -83,7 +83,7 @@ module _ (code : Code) (p : Pass) (s : State) where
       let f = ap (λ x. x .number) (by-code (λ z. omega arith) .answer) in absurd (omega arith))
       (below-or-not (judgementOf code .number) 1)
 
-  done-standing : Done code p s → openedOf code .standing ≡ standing.Accepted
+  pub done-standing : Done code p s → openedOf code .standing ≡ standing.Accepted
   done-standing e = standing-accepted code (done-number e)
 
 pub pass-refuses : demands.PassRefuses
@@ -192,20 +192,20 @@ module _ (code : Code) (e : judgementOf code .number ≡ 0) (image : List ℕ) (
   unfolding seen outcome.syndromeOf numberOf
   read-same = ap (λ s. narrowed (readingAs s (openedOf code) word)) (standing-accepted code e)
 
-  verdict-same : outcome.verdictOf f rec ≡ verdictOf code image i
+  pub verdict-same : outcome.verdictOf f rec ≡ verdictOf code image i
   unfolding outcome.verdictOf
   verdict-same = verdict-read found told (openedOf code .k) word ∙ ap (λ x. cond (eqb (x .number) 7) 5 (x .verdict)) (sym read-same)
 
-  finding-verdict : findingOf found .verdict ≡ outcome.verdictOf f rec
+  pub finding-verdict : findingOf found .verdict ≡ outcome.verdictOf f rec
   unfolding outcome.verdictOf
   finding-verdict = refl
 
-  syndrome-same : outcome.syndromeOf f rec ≡ words.syndromeFor code image i
+  pub syndrome-same : outcome.syndromeOf f rec ≡ words.syndromeFor code image i
   unfolding outcome.syndromeOf seen numberOf
   syndrome-same =
       syndrome-read (f .rows) (f .columns) (f .k) word ∙ ap (λ (x : ReadWord). x .syndrome) (sym read-same)
 
-  place-same : findingOf found .place ≡ placeFor code image i
+  pub place-same : findingOf found .place ≡ placeFor code image i
   place-same = place-read found told (openedOf code .k) word ∙ ap (λ x. cond (eqb (x .number) 7) 255 (x .place)) (sym read-same)
 
 -- ---- what a done pass changes
@@ -228,7 +228,7 @@ module _ (code : Code) (handed : Handed code) (p : Pass) (s : State) (done : Don
   accepted : Accepted code
   accepted = record { handed = handed; number = number }
 
-  laid : Laid o × (o .k ≤ 64)
+  pub laid : Laid o × (o .k ≤ 64)
   laid = laid-in 64 (code .columns) (code .k) (code .r) handed (omega arith)
 
   few-checks : length (columnsOf o) ≤ o .k + 16
@@ -238,7 +238,7 @@ module _ (code : Code) (handed : Handed code) (p : Pass) (s : State) (done : Don
       let top = limits-of code accepted .top in
       omega arith
 
-  held : Held dataSize (o .k)
+  pub held : Held dataSize (o .k)
   held = let few = laid .1 in record { least = omega arith; most = omega arith; data-held = omega arith }
 
   -- a mended record is that of the word that its reading hands back
@@ -301,12 +301,12 @@ pass-entries code handed p s done =
 -- ---- what it does is its list of entries
 
 -- 32 bits are four bytes
-four-bytes : (n : ℕ) → n < 2 ^ 32 → n < byteSpan stampSize
+pub four-bytes : (n : ℕ) → n < 2 ^ 32 → n < byteSpan stampSize
 unfolding byteSpan
 four-bytes n h = omega arith
 
 -- a syndrome has at most 16 digits
-narrow : (code : Code) → judgementOf code .number ≡ 0 → (rec : List ℕ)
+pub narrow : (code : Code) → judgementOf code .number ≡ 0 → (rec : List ℕ)
     → outcome.syndromeOf (readerOf (openedOf code) dataSize) rec < byteSpan syndromeSize
 unfolding outcome.syndromeOf byteSpan
 narrow code e rec =

@@ -1,8 +1,9 @@
 -- THE DEMANDS: what the desk promises of its exported functions, each a named proposition, proved in proofs/Demands.antt. Numbers, values
 -- and words are document 01's. Definitions.antt beside this page has the words used here, crate desk's Answers.antt what each function
--- answers. In order: records and entries; the code; writing and reading one word; explanations; cards; the tally; the pass;
--- station sheets (02's request 107; their words in Sheets.antt); making a code (02's request 101; its words in Making.antt); words of ten
--- bytes (02's request 114; theirs in Bytes.antt); putting back (02's request 104; its words in PutBack.antt). Assumes nothing.
+-- answers. In order: records and entries; the code; writing and reading one word; explanations; cards; the tally; the pass; any order of
+-- passes (02's request 113; its words in Orders.antt and in crate orders); station sheets (02's request 107; their words in Sheets.antt);
+-- making a code (02's request 101; its words in Making.antt); words of ten bytes (02's request 114; theirs in Bytes.antt); putting back
+-- (02's request 104; its words in PutBack.antt). Assumes nothing.
 use mathlib.Core.Path.{_≡_}
 use mathlib.Core.Logic.{_≢_, _⊎_, _↔_}
 use mathlib.Core.Bool.{true, false, cond}
@@ -37,6 +38,8 @@ use Rattle.cards.specs.Rule.{CardProof, FirstWeak, flipMask}
 use Rattle.asked.specs.Pass.{Pass, State, passOver, stateOf, stampAt}
 use Rattle.asked.specs.Asked.{Image, NoImage, Run, NoRun, GoesBack, Askable}
 use Rattle.passes.specs.Twice.{added, tallyAgain}
+use Rattle.orders.specs.Lists.{Rearranged}
+use Rattle.orders.specs.Orders.{Ends, endsOf, InRun, Apart, AllDone, talliesGiven, entriesSince, SameEntries, LeftClean, Unmended}
 use Rattle.sheet.specs.Sheets.{Asked}
 use Rattle.sheet.specs.Rule.{NoSheet, Stands, Within}
 use Rattle.sheets.specs.Nearest.{zeroFloat, oneFloat, Held, NearestOnly}
@@ -44,7 +47,7 @@ use Rattle.byte_parts.specs.Vectors.{timesT, powerT}
 use Rattle.byte_parts.specs.Parts.{byteAt, partsOf}
 use Rattle.byte_code.specs.Reading.{byteNumber}
 use Rattle.byte_errors.specs.Steps.{damaged, NoError, CheckError, DataError, NoStep}
-use Rattle.desk.specs.Answers.{checkBitsOf, judgementOf, rowsOf, writtenOf, readOf, explainedOf, cardsOf, byteWritten, byteRead}
+use Rattle.desk.specs.Answers.{checkBitsOf, judgementOf, rowsOf, writtenOf, readOf, explainedOf, cardsOf, passedOf, byteWritten, byteRead}
 use Rattle.demands.specs.Definitions.{Handed, Stored, Accepted, Refused, dataColumns, placesOf, Unstrayed, read, HandsBack, Clean}
 use Rattle.demands.specs.Definitions.{explanations, explanationsOf, told, onlyNumber, refusedRows, refusedWriting, refusedReading, refusedListing}
 use Rattle.demands.specs.Definitions.{cardsFor, refusedCards, allZero, PassRefused, recordOf, entryAt, room, needed, readAt, verdictOf, placeFor, syndromeFor}
@@ -55,6 +58,7 @@ use Rattle.demands.specs.Sheets.{sheetFor, noFigures}
 use Rattle.least.specs.Order.{Before}
 use Rattle.desk.specs.Answers.{madeOf}
 use Rattle.demands.specs.Making.{IsMade, noCode}
+use Rattle.demands.specs.Orders.{neededForAll, RunsApart, InSomeOrder, afterAll, asItWas}
 use Rattle.demands.specs.Bytes.{IsByte, Pattern, handing}
 use Rattle.demands.specs.PutBack.{answerBack, imageBack, backWith, fromLast, lastBack, LastMatch, StopsAt}
 
@@ -500,6 +504,76 @@ PassInTwo =
     })
     × (imageAfter code whole s ≡ imageAfter code second mid)
     × (journalAfter code whole s ≡ journalAfter code second mid))
+
+-- ---- any order of passes
+
+-- Runs are apart where no record lies in both: one of them is empty, or one ends where the other starts or before.
+abbrev pub ApartExactly : Type 0
+ApartExactly =
+    (r t : Ends) → Apart r t ↔ ((r .end ≤ r .start) ⊎ (t .end ≤ t .start) ⊎ (r .end ≤ t .start) ⊎ (t .end ≤ r .start))
+
+-- Passes under one code over runs apart, with journal room for all, each told the true count in use, stamps given so that none goes back:
+-- in whatever order, none is refused. So many entries more are in use as the runs need as they were at first, and those that were in use
+-- stay.
+abbrev pub OrderDone : Type 0
+OrderDone =
+    (code : Code) → Accepted code → (runs : List Ends) (s : State) → RunsApart code runs s
+    → (passes : List Pass) → InSomeOrder runs s passes
+    → let t = afterAll code passes s in
+    let old = s .used * entrySize dataSize in
+    AllDone (passedOf code) passes s
+    × (t .used ≡ s .used + neededForAll code (s .image) runs)
+    × (take old (t .journal) ≡ take old (s .journal))
+
+-- Every order of them leaves the same image, and the same entries but for their order and stamps.
+abbrev pub AnyOrder : Type 0
+AnyOrder =
+    (code : Code) → Accepted code → (runs : List Ends) (s : State) → RunsApart code runs s
+    → (passes others : List Pass) → InSomeOrder runs s passes → InSomeOrder runs s others
+    → let t = afterAll code passes s in
+    let u = afterAll code others s in
+    (t .image ≡ u .image) × SameEntries (entriesSince dataSize s t) (entriesSince dataSize s u)
+
+-- And each run has the same tally in every order.
+abbrev pub OrderTallies : Type 0
+OrderTallies =
+    (code : Code) → Accepted code → (runs : List Ends) (s : State) → RunsApart code runs s
+    → (passes others : List Pass) → InSomeOrder runs s passes → InSomeOrder runs s others
+    → Rearranged (talliesGiven (passedOf code) passes s) (talliesGiven (passedOf code) others s)
+
+-- Of two clerks, in plain numbers: the run of one ends where that of the other starts or before, and there is room for the entries of both.
+-- Whoever comes first, both passes are done, and the image is the same, and the entries but for their order and stamps.
+abbrev pub TwoClerks : Type 0
+TwoClerks =
+    (code : Code) → Accepted code → (a b c e early late : ℕ) (s : State)
+    → Askable dataSize (passOver a b early) s → Askable dataSize (passOver c e early) s → b ≤ c → early ≤ late → late < 2 ^ 32
+    → s .used + (needed code (s .image) a b + needed code (s .image) c e) ≤ room (s .journal)
+    → let low = stateAfter code (passOver a b early) s in
+    let high = stateAfter code (passOver c e early) s in
+    let t = stateAfter code (passOver c e late) low in
+    let u = stateAfter code (passOver a b late) high in
+    Done code (passOver a b early) s
+    × Done code (passOver c e late) low
+    × Done code (passOver c e early) s
+    × Done code (passOver a b late) high
+    × (t .image ≡ u .image)
+    × SameEntries (entriesSince dataSize s t) (entriesSince dataSize s u)
+
+-- A record that lies in the runs of two passes under one code, neither refused; others under that code, done or refused, may come between.
+-- Mended, it is clean to the later pass, which enters nothing of it. Unmended, it is entered by both, with the same verdict, place,
+-- syndrome and bytes.
+abbrev pub SharedRecord : Type 0
+SharedRecord =
+    (code : Code) → Handed code → (first last : Pass) (between : List Pass) (s : State) → Stamped first → Stamped last
+    → let t = afterAll code between (stateAfter code first s) in
+    Done code first s → Done code last t
+    → (i : ℕ) → InRun (endsOf first) i → InRun (endsOf last) i
+    → let v = verdictOf code (s .image) i in
+    let entry = asItWas code (s .image) i in
+    let late = entriesSince dataSize t (stateAfter code last t) in
+    (LeftClean v → (verdictOf code (t .image) i ≡ 0) × ((e : Entry) → List·Memᴰ e late → e .number ≢ i))
+    × (Unmended v
+    → List·Memᴰ (entry (first .stamp)) (entriesSince dataSize s (stateAfter code first s)) × List·Memᴰ (entry (last .stamp)) late)
 
 -- ---- station sheets
 

@@ -44,13 +44,13 @@ module _ (f : Reader) (image other : List ℕ) (a b : ℕ)
   same-sum : (s : List ℕ → ℕ) → sumRun size s other a b ≡ sumRun size s image a b
   same-sum s = sum-alike size s s (fromRecord size a other) (fromRecord size a image) (b - a) (λ j l. ap s (same-at j (omega arith)))
 
-  same-needed : neededRun f other a b ≡ neededRun f image a b
+  pub same-needed : neededRun f other a b ≡ neededRun f image a b
   same-needed = same-sum (unclean (verdictOf f))
 
-  same-tally : tallyRun f other a b ≡ tallyRun f image a b
+  pub same-tally : tallyRun f other a b ≡ tallyRun f image a b
   same-tally = tally-same (countRun f other a b) (countRun f image a b) (λ v. same-sum (oneIf (verdictOf f) v))
 
-  same-noted : (stamp : ℕ) → notedRun f stamp other a b ≡ notedRun f stamp image a b
+  pub same-noted : (stamp : ℕ) → notedRun f stamp other a b ≡ notedRun f stamp image a b
   same-noted stamp =
       let says : ℕ → List ℕ → List Entry = λ i. noted (verdictOf f) (entryOf f stamp) (a + i) in
       gather-alike size says says (fromRecord size a other) (fromRecord size a image) (b - a) (λ j l. ap (says j) (same-at j (omega arith)))

@@ -4,6 +4,7 @@ use crate::answers::{Explained, Judged, Passed, PutBack, Reading, Written};
 use crate::cases::{asked_shapes, edges, edges_of_bits, BackCase, Cases, ImageCase, ListCase, TurnsCase, HUGE};
 use crate::desk::{Desk, Second};
 use crate::make::Made;
+use crate::orders::{both_passed, in_every_order, promised_orders, promised_overlap};
 use crate::pass::{Pass, ENTRY};
 use std::collections::BTreeMap;
 use std::fmt;
@@ -20,6 +21,10 @@ pub struct Amounts {
     pub images: usize,
     /// Images over which passes follow one another in one journal.
     pub turns: usize,
+    /// Images with two to five runs apart, passed over in every order.
+    pub orders: usize,
+    /// Images with two runs that overlap.
+    pub overlaps: usize,
     /// Images and journals to put back with.
     pub backs: usize,
     /// Histories: passes from a new journal, put back, and passed again.
@@ -43,6 +48,8 @@ impl Amounts {
         cards: 5_000,
         images: 3_000,
         turns: 1_000,
+        orders: 500,
+        overlaps: 1_000,
         backs: 20_000,
         histories: 2_000,
         sheets: 100_000,
@@ -60,6 +67,8 @@ impl Amounts {
         cards: 0,
         images: 0,
         turns: 0,
+        orders: 0,
+        overlaps: 0,
         backs: 0,
         histories: 0,
         sheets: 0,
@@ -165,6 +174,8 @@ pub fn compare(desks: &[&dyn Desk], amounts: &Amounts) -> Result<Vec<Line>, Box<
     let cards = cases(amounts, 4, amounts.cards, Cases::card);
     let images = cases(amounts, 5, amounts.images, Cases::image);
     let turns = cases(amounts, 8, amounts.turns, Cases::turns);
+    let orders = cases(amounts, 14, amounts.orders, Cases::orders);
+    let overlaps = cases(amounts, 15, amounts.overlaps, Cases::overlap);
     let backs = cases(amounts, 12, amounts.backs, Cases::back);
     let histories = cases(amounts, 13, amounts.histories, Cases::history);
     let stations = edges().into_iter().chain(cases(amounts, 7, amounts.sheets, Cases::station));
@@ -182,6 +193,8 @@ pub fn compare(desks: &[&dyn Desk], amounts: &Amounts) -> Result<Vec<Line>, Box<
         ask("card check", desks, cards, |d, c| d.card_check(&c.code, c.b), |a| a.number)?,
         ask("pass", desks, images, passed, |a| a.0.number)?,
         ask("passes", desks, turns, passed_in_turn, |a| a.0.last().map_or(0, |last| last.number))?,
+        ask_promised("orders", desks, orders, |o| Some(vec![promised_orders(o)]), in_every_order, |a| a[0].answers[0].0)?,
+        ask_promised("overlaps", desks, overlaps, |o| Some(promised_overlap(o)), both_passed, |a| a.numbers[0])?,
         ask("put back", desks, backs, put_back, |a| a.0.number)?,
         ask_promised("history", desks, histories, |h| Some(promised(h)), history, |a| a.back.0.number)?,
         ask("sheet", desks, stations, |d, s| d.sheet(s), |a| a.number)?,
@@ -197,16 +210,26 @@ pub fn compare(desks: &[&dyn Desk], amounts: &Amounts) -> Result<Vec<Line>, Box<
 const GUARD: usize = 16;
 
 /// A buffer to lend: these bytes between two guards.
-struct Lent(Vec<u8>);
+pub(crate) struct Lent(Vec<u8>);
 
 impl Lent {
-    fn new(bytes: &[u8]) -> Lent {
+    pub fn new(bytes: &[u8]) -> Lent {
         Lent([&[0xD5; GUARD], bytes, &[0xD5; GUARD]].concat())
     }
 
-    fn bytes(&mut self) -> &mut [u8] {
+    pub fn bytes(&mut self) -> &mut [u8] {
         let end = self.0.len() - GUARD;
         &mut self.0[GUARD..end]
+    }
+
+    /// Every byte, guards too.
+    pub fn all(&self) -> &[u8] {
+        &self.0
+    }
+
+    /// The same in two parts, the second from the lent byte `at` on.
+    pub fn halves(&self, at: usize) -> (&[u8], &[u8]) {
+        self.0.split_at(at.saturating_add(GUARD).min(self.0.len()))
     }
 }
 

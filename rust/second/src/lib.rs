@@ -5,6 +5,8 @@
 //! explanations and cards flip places and ask that again. The syndrome is handed out, and its ones are counted where no
 //! flip helps; nothing is looked up by it, no columns are mixed, and nothing is shared with the desk.
 //!
+//! Of passes in any order it says what they must leave, without running one.
+//!
 //! The questions are [`wanted`], [`judge`], [`row_balance`], [`write`], [`read`], [`explain`], [`card_check`], [`pass`],
 //! [`put_back`], [`sheet`], [`make`], [`byte_write`], [`byte_read`] and the program [`mend`]. [`Desk`] gathers them,
 //! [`Cases`] makes cases from a seed, [`compare`] asks several desks, and [`worked`] asks a desk the documents' own cases.
@@ -19,6 +21,7 @@ mod compare;
 mod desk;
 mod explain;
 mod make;
+mod orders;
 mod pass;
 mod program;
 mod random;

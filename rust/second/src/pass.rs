@@ -21,17 +21,17 @@ pub struct Pass {
 
 /// One record of the run: its number from the image's start, what it reads as, its syndrome (0 where it is stray), its
 /// bytes before and after.
-struct Seen {
-    record: usize,
-    verdict: usize,
+pub(crate) struct Seen {
+    pub record: usize,
+    pub verdict: usize,
     place: usize,
     syndrome: u64,
     before: Vec<u8>,
-    after: Vec<u8>,
+    pub after: Vec<u8>,
 }
 
 impl Seen {
-    fn entry(&self, stamp: u32) -> Vec<u8> {
+    pub fn entry(&self, stamp: u32) -> Vec<u8> {
         let (stamp, record) = (in_bytes(&switches(stamp.into(), 32)), in_bytes(&switches(self.record as u64, 16)));
         let (reading, syndrome) = ([self.verdict as u8, self.place as u8], in_bytes(&switches(self.syndrome, 16)));
         [&stamp, &record, &reading[..], &syndrome, &self.before, &self.after].concat()
@@ -44,7 +44,7 @@ fn in_bytes(row: &[bool]) -> Vec<u8> {
 }
 
 /// Reads one record of the image.
-fn see(code: &Accepted, record: usize, bytes: &[u8]) -> Seen {
+pub(crate) fn see(code: &Accepted, record: usize, bytes: &[u8]) -> Seen {
     let mut all: Vec<bool> = bytes.iter().flat_map(|&byte| switches(byte.into(), 8)).collect();
     let ((verdict, place), syndrome) = match code.word(&all[..64], &all[64..]) {
         Ok(word) => (code.verdict(&word), number(&code.syndrome(&word))),

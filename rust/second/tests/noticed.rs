@@ -69,6 +69,12 @@ enum Fault {
     NewEntriesAreHandedBack,
     RefusedPassHasCount,
     LastUsedEntryIsStamped,
+    // Passes in any order, and over the same record twice.
+    LaterRunsMustLieBehind,
+    NextRecordIsMended,
+    TallyGoesOn,
+    EnteredOnce,
+    MendedIsEnteredAgain,
     // Syndromes.
     SyndromeBeforePlace,
     MendedSyndromeIsEntered,
@@ -180,6 +186,11 @@ impl Sloppy {
             _ => *code,
         }
     }
+}
+
+/// The records that entries are of, by the low byte of their number.
+fn entered(entries: &[u8]) -> impl Iterator<Item = usize> + '_ {
+    entries.chunks_exact(30).map(|entry| usize::from(entry[4]))
 }
 
 /// A pass that is refused by this number: image and journal are as they were.
@@ -420,7 +431,7 @@ impl Desk for Sloppy {
 
     fn pass(&self, code: &Code, image: &mut [u8], journal: &mut [u8], asked: &Pass) -> Passed {
         let Pass { start, end, used, .. } = *asked;
-        let (before, records) = (image.to_vec(), image.len() / 10);
+        let (before, journal_before, records) = (image.to_vec(), journal.to_vec(), image.len() / 10);
         let bad_run = start > end || end > records;
         let mut answer = self.pass_by_the_count(code, image, journal, asked);
         let noted: usize = answer.tally[1..].iter().sum();
@@ -442,6 +453,28 @@ impl Desk for Sloppy {
             (RefusedPassIsNoted, 13) => journal.fill(0),
             (JournalTailIsCleared, 0) => journal[30 * answer.used..].fill(0),
             (NothingIsMended, 0) => image.copy_from_slice(&before),
+            (LaterRunsMustLieBehind, 0) if entered(&journal[..30 * used]).any(|record| record > end) => {
+                return refused_pass(14, image, journal, (before, journal_before))
+            }
+            (NextRecordIsMended, 0) if end < records => {
+                pass(code, image, &mut [0; 30], &Pass { start: end, end: end + 1, ..Pass::default() });
+            }
+            (TallyGoesOn, 0) => answer.tally[0] += used,
+            (EnteredOnce, 0) => {
+                let (old, new) = journal[..30 * answer.used].split_at(30 * used);
+                let is_new = |entry: &&[u8]| !entered(old).any(|record| record == usize::from(entry[4]));
+                let kept: Vec<u8> = new.chunks(30).filter(is_new).flatten().copied().collect();
+                journal.copy_from_slice(&journal_before);
+                journal[30 * used..][..kept.len()].copy_from_slice(&kept);
+                answer.used = used + kept.len() / 30;
+            }
+            (MendedIsEnteredAgain, 0) if answer.tally[2] > 0 => {
+                let new = journal[30 * used..30 * answer.used].chunks(30);
+                let check_bits = new.filter(|entry| entry[6] == 2).map(|entry| usize::from(entry[4]));
+                for at in check_bits.map(|record| 10 * record) {
+                    image[at..at + 10].copy_from_slice(&before[at..at + 10]);
+                }
+            }
             (StrayIsNotCounted, 0) => answer.tally[5] = 0,
             (RefusedPassHasTally, 13) => answer.tally[3] = answer.told,
             _ => {}
@@ -656,6 +689,21 @@ fn passes_in_turn_notice_what_a_true_count_shows() {
     noticed(&faults, "passes", Amounts { turns: 500, ..NO_CASES });
     let faults = [StampIsTriedWithNoneUsed, RoomFromTheStart, NoRoomForTheLast, NewEntriesAreHandedBack];
     noticed(&faults, "passes", Amounts { turns: 500, ..NO_CASES });
+}
+
+#[test]
+fn every_order_of_passes_notices_what_depends_on_the_order() {
+    let amounts = Amounts { orders: 20, ..NO_CASES };
+    noticed(&[LaterRunsMustLieBehind, NextRecordIsMended, TallyGoesOn], "orders", amounts);
+    noticed(&[WholeImageIsMended, NothingIsMended, EqualStampIsRefused, NoRoomForTheLast], "orders", amounts);
+    noticed(&[WrittenOverAUsedEntry, NewEntriesAreHandedBack, StampIsNotWritten], "orders", amounts);
+}
+
+#[test]
+fn runs_that_overlap_notice_a_record_that_is_entered_wrongly_again() {
+    let amounts = Amounts { overlaps: 100, ..NO_CASES };
+    noticed(&[EnteredOnce, MendedIsEnteredAgain, NothingIsMended], "overlaps", amounts);
+    noticed(&[MendedSyndromeIsEntered, NumbersFromTheRun, NewEntriesAreHandedBack], "overlaps", amounts);
 }
 
 /// The faults of a syndrome that reading tells, and of one that is entered.

@@ -12,6 +12,8 @@ const SMALL: Amounts = Amounts {
     cards: 1_000,
     images: 1_000,
     turns: 1_000,
+    orders: 20,
+    overlaps: 200,
     backs: 4_000,
     histories: 500,
     sheets: 4_000,
@@ -25,9 +27,10 @@ fn the_same_seed_gives_the_same_cases() {
     let all = |seed: u64| {
         let mut cases = Cases::new(seed);
         let some = |_| {
-            let program = (cases.image(), cases.turns(), cases.back(), cases.history(), cases.program_input());
+            let passes = (cases.image(), cases.turns(), cases.orders(), cases.overlap());
+            let program = (cases.back(), cases.history(), cases.program_input());
             let bytes = (cases.byte_data(), cases.byte_errors().sum::<u64>(), cases.byte_word());
-            (cases.code(), cases.word(), cases.list(), cases.card(), cases.station(), bytes, program)
+            (cases.code(), cases.word(), cases.list(), cases.card(), cases.station(), bytes, passes, program)
         };
         format!("{:?}", (0..50).map(some).collect::<Vec<_>>())
     };
@@ -49,6 +52,8 @@ fn every_number_of_every_question_is_met() {
         ("card check", met(&[0, 1, 2, 3, 4, 5, 6, 8, 9, 21])),
         ("pass", met(&[0, 1, 2, 3, 4, 5, 6, 12, 13, 14, 16, 17, 21])),
         ("passes", met(&[0, 1, 2, 3, 4, 5, 6, 13, 14, 16, 21])),
+        ("orders", met(&[0])),
+        ("overlaps", met(&[0])),
         ("put back", met(&[0, 12, 17, 18])),
         ("history", met(&[0])),
         ("sheet", met(&[0, 19])),
@@ -115,6 +120,49 @@ fn words_have_every_verdict_and_place() {
     }
     assert!(verdicts.iter().all(|&count| count > 500), "{:?}", verdicts);
     assert!((0..80).chain([255]).all(|place| places.contains(&place)));
+}
+
+#[test]
+fn runs_to_be_passed_over_in_any_order_are_apart_and_of_every_shape() {
+    let mut cases = Cases::new(8);
+    let mut seen = BTreeSet::new();
+    for _ in 0..1_000 {
+        let case = cases.orders();
+        let is_in = |record: usize| case.runs.iter().filter(|run| (run.0..run.1).contains(&record)).count();
+        assert!((0..case.image.len() / 10).all(|record| is_in(record) < 2));
+        assert!(case.stamps.windows(2).all(|two| two[0] <= two[1]));
+        let is_empty = |run: &(usize, usize)| run.0 == run.1;
+        let within = |run: &(usize, usize)| case.runs.iter().any(|other| other.0 < run.0 && run.0 < other.1);
+        let touches = |run: &(usize, usize)| case.runs.iter().any(|other| other != run && other.1 == run.0);
+        seen.insert(("runs", case.runs.len()));
+        seen.insert(("empty", usize::from(case.runs.iter().any(is_empty))));
+        seen.insert(("empty within another", usize::from(case.runs.iter().any(|run| is_empty(run) && within(run)))));
+        seen.insert(("touching", usize::from(case.runs.iter().any(touches))));
+        seen.insert(("used", usize::from(case.used > 0)));
+        seen.insert(("equal stamps", usize::from(case.stamps.windows(2).any(|two| two[0] == two[1]))));
+    }
+    let either = ["empty", "empty within another", "touching", "used", "equal stamps"];
+    assert!(either.iter().all(|&what| seen.contains(&(what, 0)) && seen.contains(&(what, 1))), "{:?}", seen);
+    assert!((2..=5).all(|runs| seen.contains(&("runs", runs))));
+}
+
+#[test]
+fn records_in_two_runs_have_every_verdict() {
+    let mut cases = Cases::new(9);
+    let (mut verdicts, mut between) = ([0; 6], BTreeSet::new());
+    for _ in 0..300 {
+        let case = cases.overlap();
+        let (first, last) = (case.passes[0], case.passes[case.passes.len() - 1]);
+        let both = first.0.max(last.0)..first.1.min(last.1);
+        assert!(!both.is_empty());
+        let mut journal = vec![0; 3 * case.image.len()];
+        let asked = Pass { start: both.start, end: both.end, ..Pass::default() };
+        let tally = pass(&case.code, &mut case.image.clone(), &mut journal, &asked).tally;
+        (0..6).for_each(|verdict| verdicts[verdict] += tally[verdict]);
+        between.insert(case.passes.len() - 2);
+    }
+    assert!(verdicts.iter().all(|&count| count > 50), "{:?}", verdicts);
+    assert_eq!(between, (0..4).collect());
 }
 
 #[test]

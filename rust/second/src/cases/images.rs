@@ -89,7 +89,7 @@ impl Cases {
     }
 
     /// How many entries are in use before a pass: often none or few.
-    fn used_before(&mut self) -> usize {
+    pub(super) fn used_before(&mut self) -> usize {
         match self.random.below(8) {
             0..=2 => 0,
             3 => 1,
@@ -158,7 +158,7 @@ impl Cases {
     }
 
     /// A journal filled with anything; of the entries in use the first and the last often have a stamp that is an edge.
-    fn filled_journal(&mut self, length: usize, used: usize) -> Vec<u8> {
+    pub(super) fn filled_journal(&mut self, length: usize, used: usize) -> Vec<u8> {
         let mut journal = self.random.bytes(length);
         let room = length / ENTRY;
         for at in [0, used.saturating_sub(1)] {
@@ -171,7 +171,7 @@ impl Cases {
     }
 
     /// The entries that a run needs, 0 where the pass is refused anyhow.
-    fn needed(code: &Code, image: &[u8], start: usize, end: usize) -> usize {
+    pub(super) fn needed(code: &Code, image: &[u8], start: usize, end: usize) -> usize {
         let mut ample = vec![0; image.len() / RECORD * ENTRY];
         pass(code, &mut image.to_vec(), &mut ample, &Pass { start, end, used: 0, stamp: 0 }).used
     }

@@ -5,6 +5,7 @@
 mod backs;
 mod codes;
 mod images;
+mod orders;
 mod stations;
 mod tens;
 mod words;
@@ -17,6 +18,7 @@ use std::rc::Rc;
 pub use backs::BackCase;
 pub use codes::asked_shapes;
 pub use images::{ImageCase, TurnsCase};
+pub use orders::{OrdersCase, OverlapCase};
 pub use stations::edges;
 pub use tens::edges_of_bits;
 pub use words::{CardCase, ListCase, WordCase};
