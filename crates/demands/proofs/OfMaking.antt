@@ -13,7 +13,7 @@ use Rattle.wanted.specs.declared.CheckBits.{CheckBits}
 use Rattle.wanted.proofs.Bands.{wanted-inside}
 use Rattle.balance.specs.Balance.{allOnes}
 use Rattle.make.specs.declared.Made.{Made}
-use Rattle.make.specs.Order.{madeColumns}
+use Rattle.order.specs.Order.{madeColumns}
 use Rattle.make.specs.Made.{paddedTo, makeNumber, makingBy}
 use Rattle.make.proofs.Exactly.{one-exactly, two-exactly, fifteen-exactly, done-exactly, refused-code}
 use Rattle.least.specs.Order.{Before}

@@ -16,7 +16,7 @@ use Rattle.judge.specs.Judge.{judgeIn}
 use Rattle.judge.specs.Rule.{matrix, Limits}
 use Rattle.judge.proofs.Table.{judge-rule}
 use Rattle.balance.specs.Balance.{allOnes}
-use Rattle.make.specs.Order.{inOrder, madeColumns}
+use Rattle.order.specs.Order.{inOrder, madeColumns}
 use Rattle.make.specs.Made.{paddedTo}
 use Rattle.least.specs.Order.{DataColumn, Before}
 use Rattle.least.proofs.Order.{order-has, order-before}

@@ -16,7 +16,7 @@ use Rattle.columns.specs.Mix.{column, singles, placeIn}
 use Rattle.columns.proofs.Places.{place-hit, place-first}
 use Rattle.columns.proofs.Pigeonhole.{apart-below}
 use Rattle.columns.proofs.Singles.{length-singles, single-at}
-use Rattle.make.specs.Order.{passingFrom, passing}
+use Rattle.order.specs.Order.{passingFrom, passing}
 
 -- ---- pigeonhole
 

@@ -12,7 +12,7 @@ use lib.ListN.{length, length-append, List·getD-append}
 use lib.Seq.{getD-append-add}
 use Rattle.parity.proofs.Ones.{below-or-not}
 use Rattle.columns.specs.Mix.{column}
-use Rattle.make.specs.Order.{withOnes, byOnes, inOrder}
+use Rattle.order.specs.Order.{withOnes, byOnes, inOrder}
 use Rattle.least.specs.Sorted.{SortedBy}
 use Rattle.least.specs.Order.{DataColumn, Before}
 use Rattle.least.proofs.Counting.{Apart, Stands, apart-of, stands-left, stands-right, passing-at, passing-rises, passing-has}

@@ -16,7 +16,7 @@ use Rattle.columns.proofs.Singles.{length-joined}
 use Rattle.judge.specs.Rule.{matrix, Hsiao, FineAt}
 use Rattle.judge.proofs.Rule.{rule-of, fine-of, matrix-below}
 use Rattle.balance.specs.Balance.{sumOf, allOnes}
-use Rattle.make.specs.Order.{passing, inOrder, madeColumns}
+use Rattle.order.specs.Order.{passing, inOrder, madeColumns}
 use Rattle.least.specs.Order.{DataColumn}
 use Rattle.least.proofs.Counting.{Stands, Apart, apart-of, pigeons, stands-left, stands-right, passing-at, passing-apart, passing-has, odd-half, single-stands}
 use Rattle.least.proofs.Sorted.{first-least}

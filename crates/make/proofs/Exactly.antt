@@ -1,8 +1,8 @@
--- The maker's answer in plain numbers: 1, 2, 15 and 0 exactly, what a refusal hands back, and an order written out. Assumes nothing.
+-- The maker's answer in plain numbers: 1, 2, 15 and 0 exactly, what a refusal hands back, and a code written out. Assumes nothing.
 use mathlib.Core.Path.{_≡_, refl, sym, ap, ap₂, _∙_}
 use mathlib.Core.Bool.{false, or-true}
 use mathlib.Core.Logic.{_≢_, _⊎_, _↔_, inl, inr, ⊎-elim}
-use mathlib.Core.List.{List, [], _∷_}
+use mathlib.Core.List.{List, _∷_}
 use Prim.Native.Nat.{ℕ, zero, suc, _-_, _^_, _≤_, _<_}
 use native.Mathlib.Omega.{arith}
 use borrow.Author.Tests.{eq-eqb, ne-eqb, lt-ltb, le-ltb}
@@ -12,7 +12,7 @@ use lib.ListN.{replicate}
 use Rattle.parity.proofs.Ones.{below-or-not}
 use Rattle.judge.specs.Rule.{Sized, Limits}
 use Rattle.make.specs.declared.Made.{Made}
-use Rattle.make.specs.Order.{passingFrom, byOnes, madeColumns}
+use Rattle.order.specs.Order.{passingFrom, byOnes}
 use Rattle.make.specs.Made.{makeNumber, placesBy, makingBy, makeOf}
 
 -- the ends of k and r, and of the room, written out
@@ -142,11 +142,7 @@ module _ (k r n : ℕ) (places : List ℕ) (e : n ≡ makeNumber 64 k r) (l : pl
 pub refused-code : (n k r : ℕ) → makingBy (suc n) k r ≡ record { number = suc n; code = record { columns = replicate 64 0; k = 0; r = 0 } }
 refused-code n k r = refl
 
--- every column of five rows, and the places of a code of eight of them
-pub five-rows : madeColumns 11 5 ≡ 7 ∷ 11 ∷ 13 ∷ 14 ∷ 19 ∷ 21 ∷ 22 ∷ 25 ∷ 26 ∷ 28 ∷ 31 ∷ []
-unfolding byOnes passingFrom ones onesIn
-five-rows = refl
-
+-- the places of a code of eight columns of five rows
 pub eight-of-five :
     makingBy 0 8 5
     ≡ record {

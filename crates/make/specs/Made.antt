@@ -1,16 +1,11 @@
 -- What the maker answers: 02's request 101. Assumes nothing.
 use mathlib.Core.Bool.{cond, _||_}
-use mathlib.Core.List.{List, [], _∷_, _++_}
+use mathlib.Core.List.{List, _++_}
 use Prim.Native.Nat.{ℕ, zero, suc, _-_, _^_}
 use lib.Dec.{eqb, ltb}
-use lib.ListN.{length, set, replicate}
+use lib.ListN.{length, replicate}
 use Rattle.make.specs.declared.Made.{Made}
-use Rattle.make.specs.Order.{madeColumns}
-
--- the numbers xs, put into the places from i on as long as there are places
-unfoldable pub putFrom : List ℕ → ℕ → List ℕ → List ℕ
-putFrom places i [] = places
-putFrom places i (x ∷ xs) = putFrom (set places i x) (suc i) xs
+use Rattle.order.specs.Order.{madeColumns}
 
 -- the list, and zeros up to `most` places
 abbrev pub paddedTo : ℕ → List ℕ → List ℕ

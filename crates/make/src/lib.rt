@@ -1,49 +1,8 @@
 // The maker: a code from k and r alone, whose columns have as few ones as can be.
 ghost use mathlib.Core.Path.{_≡_};
-ghost use Prim.Native.Nat.{_+_, _≤_, min};
 ghost use lib.ListN.{length, replicate};
-ghost use Rattle.make.specs.Order.{withOnes, inOrder};
-ghost use Rattle.make.specs.Made.{putFrom, makeNumber, placesBy, makeOf};
+ghost use Rattle.make.specs.Made.{makeNumber, placesBy, makeOf};
 use code::Code;
-
-// The numbers below 2^r with c ones, the smaller first, into the places from `at` on until they are full; where the next one goes.
-fn put_ones(places: &mut [u16], at: usize, r: usize, c: u32) -> usize
-    requires { ⌜ (at ≤ length (now places)) × (r ≤ 16) ⌝ }
-    ensures { λ i. ⌜ i ≡ min (length (now (places .entry))) (at + length (withOnes r c)) ⌝ }
-    ensures { λ _. ⌜ now (places .exit) ≡ putFrom (now (places .entry)) at (withOnes r c) ⌝ }
-{
-    let limit: u32 = 1u32 << r;
-    let mut i = at;
-    let mut x: u32 = 0;
-    while x < limit {
-        if i >= places.len() {
-            return i;
-        }
-        let column = x as u16;
-        x += 1;
-        if parity::weight(column) == c {
-            places[i] = column;
-            i += 1;
-        }
-    }
-    i
-}
-
-// Three ones first, then five and so on, until the places are full.
-fn put_columns(places: &mut [u16], r: usize)
-    requires { ⌜ r ≤ 16 ⌝ }
-    ensures { λ _. ⌜ now (places .exit) ≡ putFrom (now (places .entry)) 0 (inOrder r) ⌝ }
-{
-    let mut i = 0;
-    let mut c: usize = 3;
-    while c <= r {
-        if i >= places.len() {
-            return;
-        }
-        i = put_ones(places, i, r, c as u32);
-        c += 2;
-    }
-}
 
 // 1, 2, then 15 where there are fewer than k columns.
 fn make_number(most: usize, k: usize, r: usize) -> usize
@@ -79,7 +38,7 @@ fn make_in(places: &mut [u16], k: usize, r: usize) -> usize
     if number != 0 {
         return number;
     }
-    put_columns(&mut places[..k], r);
+    order::put_columns(&mut places[..k], r);
     0
 }
 

@@ -14,7 +14,7 @@ use Rattle.listing.specs.Sets.{flipAll, chosen, setsUpTo, those, bytesFor}
 use Rattle.explain.specs.Explanations.{explanations, listedIn, explainIn}
 use Rattle.cards.specs.Cards.{cutInto, weakMask, firstFrom, tryMask, weakMaskIn, weakCardIn}
 use Rattle.card_check.specs.Checking.{cardedIn}
-use Rattle.make.specs.Order.{passingFrom, byOnes}
+use Rattle.order.specs.Order.{passingFrom, byOnes}
 use Rattle.make.specs.Made.{makeNumber}
 use Rattle.worked.specs.Table.{right, allRight, table}
 

@@ -6,8 +6,8 @@ use borrow.Author.Needs.{needs}
 use lib.ListN.{length, take, drop}
 use lib.Seq.{length-take-le}
 use Rattle.judge.specs.Rule.{Limits}
-use Rattle.make.specs.Order.{inOrder}
-use Rattle.make.specs.Made.{putFrom}
+use Rattle.order.specs.Order.{inOrder}
+use Rattle.order.specs.Order.{putFrom}
 use Rattle.make.proofs.Exactly.{done-exactly, refused-places}
 use Rattle.make.proofs.Putting.{put-first}
 use Rattle.make.proofs.make_in.Statement.{statement}

@@ -6,7 +6,7 @@ use native.Mathlib.Omega.{arith}
 use Rattle.columns.proofs.Words.{shl-one}
 use Rattle.judge.specs.Rule.{Sized, Limits}
 use Rattle.make.proofs.Exactly.{no-data, no-checks, no-room, has-room}
-use Rattle.make.proofs.Walk.{rows-fit}
+use Rattle.order.proofs.Walk.{rows-fit}
 use Rattle.make.proofs.make_number.Statement.{statement}
 use Rattle.make.proofs.make_number.Tie as tie
 

@@ -12,9 +12,9 @@ use lib.Count.{ones}
 use lib.Dec.{eqb}
 use lib.ListN.{length, set, length-set}
 use lib.Pow.{pow-mono, pow-pos}
-use Rattle.make.specs.Order.{passingFrom, withOnes, byOnes, inOrder}
-use Rattle.make.specs.Made.{putFrom}
-use Rattle.make.proofs.Putting.{put-full, put-next, length-put}
+use Rattle.order.specs.Order.{passingFrom, withOnes, byOnes, inOrder}
+use Rattle.order.specs.Order.{putFrom}
+use Rattle.order.proofs.Putting.{put-full, put-next, length-put}
 
 -- those from x on
 abbrev ahead : ℕ → ℕ → ℕ → List ℕ

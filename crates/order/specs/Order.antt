@@ -5,7 +5,7 @@ use mathlib.Core.List.{List, [], _∷_, _++_}
 use Prim.Native.Nat.{ℕ, zero, suc, _+_, _-_, _/_, _^_}
 use lib.Count.{ones}
 use lib.Dec.{eqb}
-use lib.ListN.{take}
+use lib.ListN.{set, take}
 
 -- of the n numbers from a on, those that pass f, the smaller first; and of the numbers below n
 unfoldable pub passingFrom : (ℕ → Bool) → ℕ → ℕ → List ℕ
@@ -31,3 +31,10 @@ inOrder r = byOnes r ((r - 1) / 2) 3
 -- the columns that are made
 abbrev pub madeColumns : ℕ → ℕ → List ℕ
 madeColumns k r = take k (inOrder r)
+
+-- ---- put into places
+
+-- the numbers xs, put into the places from i on as long as there are places
+unfoldable pub putFrom : List ℕ → ℕ → List ℕ → List ℕ
+putFrom places i [] = places
+putFrom places i (x ∷ xs) = putFrom (set places i x) (suc i) xs

@@ -1,12 +1,12 @@
--- `make::put_ones` meets its contract. The invariant: what is ahead, put from here on, gives what all of them give. Assumes nothing.
+-- `order::put_ones` meets its contract. The invariant: what is ahead, put from here on, gives what all of them give. Assumes nothing.
 use mathlib.Core.Path.{_≡_, sym, _∙_}
 use Prim.Native.Nat.{_-_, _^_, _<_}
 use native.Mathlib.Omega.{arith}
 use borrow.Author.Needs.{needs}
 use Rattle.columns.proofs.Words.{shl-one}
-use Rattle.make.proofs.Walk.{Walked, walk-start, walk-taken, walk-left, walk-full, walk-done, power-most}
-use Rattle.make.proofs.put_ones.Statement.{statement}
-use Rattle.make.proofs.put_ones.Tie as tie
+use Rattle.order.proofs.Walk.{Walked, walk-start, walk-taken, walk-left, walk-full, walk-done, power-most}
+use Rattle.order.proofs.put_ones.Statement.{statement}
+use Rattle.order.proofs.put_ones.Tie as tie
 
 abbrev Inv-loop : tie.InvT-loop
 Inv-loop places₀ at r c limit i₀ x₀ places i x = (limit ≡ 2 ^ r) × Walked places₀ at r c places i x

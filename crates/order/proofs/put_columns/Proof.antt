@@ -1,11 +1,11 @@
--- `make::put_columns` meets its contract. The invariant: the counts from c on, put from here on, give what all of them give.
+-- `order::put_columns` meets its contract. The invariant: the counts from c on, put from here on, give what all of them give.
 -- Assumes nothing.
 use Prim.Native.Nat.{_+_, _-_}
 use native.Mathlib.Omega.{arith}
 use borrow.Author.Needs.{needs}
-use Rattle.make.proofs.Walk.{Counted, count-start, count-next, count-full, count-done}
-use Rattle.make.proofs.put_columns.Statement.{statement}
-use Rattle.make.proofs.put_columns.Tie as tie
+use Rattle.order.proofs.Walk.{Counted, count-start, count-next, count-full, count-done}
+use Rattle.order.proofs.put_columns.Statement.{statement}
+use Rattle.order.proofs.put_columns.Tie as tie
 
 abbrev Inv-loop : tie.InvT-loop
 Inv-loop places₀ r i₀ c₀ places i c = Counted places₀ r places i c

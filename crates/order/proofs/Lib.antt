@@ -1,0 +1,3 @@
+pub mod Putting
+pub mod Walk
+pub mod Exactly
