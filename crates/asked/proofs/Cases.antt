@@ -1,6 +1,7 @@
 -- Which row of "When the desk says no" refuses a pass before its records are looked at, from what its tests say. Assumes nothing.
 use mathlib.Core.Path.{_≡_}
-use mathlib.Core.Bool.{or-true, and-false}
+use mathlib.Core.Bool.{true, false, or-true, and-false}
+use mathlib.Core.List.{List}
 use mathlib.Core.Logic.{_≢_, _⊎_, inl, inr, ⊎-elim}
 use Prim.Native.Nat.{ℕ, _%_, _≤_, _<_}
 use native.Mathlib.Omega.{arith}
@@ -8,68 +9,73 @@ use borrow.Author.Tests.{eq-eqb, ne-eqb, lt-ltb, le-ltb}
 use lib.ListN.{length}
 use Rattle.parity.proofs.Ones.{below-or-not}
 use Rattle.record.specs.Layout.{recordSize, imageLimit, recordsIn}
-use Rattle.asked.specs.Pass.{Pass, State, roomIn, lastStamp, wrongIn}
+use Rattle.asked.specs.Pass.{Pass, State, noImage, roomIn, lastStamp, wrongIn}
 use Rattle.asked.specs.Asked.{Image, NoImage, Run, NoRun, GoesBack, Askable}
+
+-- ---- bytes that are an image, and bytes that are none
+
+module _ (d : ℕ) (image : List ℕ) where
+  pub not-one : NoImage d image → noImage d image ≡ true
+  not-one (inl n) = simp (ne-eqb _ _ n, or-true)
+  not-one (inr h) = simp (lt-ltb _ _ h)
+
+  pub an-image : Image d image → noImage d image ≡ false
+  an-image i = simp (le-ltb _ _ (i .short), eq-eqb _ _ (i .whole))
 
 -- ---- the number that refuses a pass before its records are looked at
 
 module _ (d : ℕ) (p : Pass) (s : State) where
-  pub too-long : imageLimit d < length (s .image) → wrongIn d p s ≡ 12
+  pub none-lent : noImage d (s .image) ≡ true → wrongIn d p s ≡ 12
   unfolding wrongIn
-  too-long h = simp (lt-ltb _ _ h)
+  none-lent h = rw h
 
-  pub uneven : length (s .image) % recordSize d ≢ 0 → wrongIn d p s ≡ 12
-  unfolding wrongIn
-  uneven n = simp (ne-eqb _ _ n, or-true)
-
-  module _ (h : length (s .image) ≤ imageLimit d) (e : length (s .image) % recordSize d ≡ 0) where
+  module _ (i : noImage d (s .image) ≡ false) where
     pub turned-round : p .end < p .start → wrongIn d p s ≡ 14
     unfolding wrongIn
-    turned-round t = simp (le-ltb _ _ h, eq-eqb _ _ e, lt-ltb _ _ t)
+    turned-round t = rw i (simp (lt-ltb _ _ t))
 
     pub past : recordsIn d (s .image) < p .end → wrongIn d p s ≡ 14
     unfolding wrongIn
-    past u = simp (le-ltb _ _ h, eq-eqb _ _ e, lt-ltb _ _ u, or-true)
+    past u = rw i (simp (lt-ltb _ _ u, or-true))
 
     module _ (t : p .start ≤ p .end) (u : p .end ≤ recordsIn d (s .image)) where
       pub over-used : roomIn d (s .journal) < s .used → wrongIn d p s ≡ 17
       unfolding wrongIn
-      over-used v = simp (le-ltb _ _ h, eq-eqb _ _ e, le-ltb _ _ t, le-ltb _ _ u, lt-ltb _ _ v)
+      over-used v = rw i (simp (le-ltb _ _ t, le-ltb _ _ u, lt-ltb _ _ v))
 
       module _ (v : s .used ≤ roomIn d (s .journal)) where
         pub back : 0 < s .used → p .stamp < lastStamp d (s .journal) (s .used) → wrongIn d p s ≡ 16
         unfolding wrongIn
-        back x y =
-            simp (le-ltb _ _ h, eq-eqb _ _ e, le-ltb _ _ t, le-ltb _ _ u, le-ltb _ _ v, lt-ltb _ _ x, lt-ltb _ _ y)
+        back x y = rw i (simp (le-ltb _ _ t, le-ltb _ _ u, le-ltb _ _ v, lt-ltb _ _ x, lt-ltb _ _ y))
 
         pub none-used : s .used ≤ 0 → wrongIn d p s ≡ 0
         unfolding wrongIn
-        none-used x = simp (le-ltb _ _ h, eq-eqb _ _ e, le-ltb _ _ t, le-ltb _ _ u, le-ltb _ _ v, le-ltb _ _ x)
+        none-used x = rw i (simp (le-ltb _ _ t, le-ltb _ _ u, le-ltb _ _ v, le-ltb _ _ x))
 
         pub on : lastStamp d (s .journal) (s .used) ≤ p .stamp → wrongIn d p s ≡ 0
         unfolding wrongIn
-        on y = simp (le-ltb _ _ h, eq-eqb _ _ e, le-ltb _ _ t, le-ltb _ _ u, le-ltb _ _ v, le-ltb _ _ y, and-false)
+        on y = rw i (simp (le-ltb _ _ t, le-ltb _ _ u, le-ltb _ _ v, le-ltb _ _ y, and-false))
 
   pub wrong-12 : NoImage d (s .image) → wrongIn d p s ≡ 12
-  wrong-12 h = ⊎-elim uneven too-long h
+  wrong-12 h = none-lent (not-one d (s .image) h)
 
   module _ (i : Image d (s .image)) where
     pub wrong-14 : NoRun d (s .image) (p .start) (p .end) → wrongIn d p s ≡ 14
-    wrong-14 h = ⊎-elim (turned-round (i .short) (i .whole)) (past (i .short) (i .whole)) h
+    wrong-14 h = ⊎-elim (turned-round (an-image d (s .image) i)) (past (an-image d (s .image) i)) h
 
     module _ (r : Run d (s .image) (p .start) (p .end)) where
       pub wrong-17 : roomIn d (s .journal) < s .used → wrongIn d p s ≡ 17
-      wrong-17 h = over-used (i .short) (i .whole) (r .rising) (r .within) h
+      wrong-17 h = over-used (an-image d (s .image) i) (r .rising) (r .within) h
 
       pub wrong-16 : s .used ≤ roomIn d (s .journal) → GoesBack d (p .stamp) (s .journal) (s .used) → wrongIn d p s ≡ 16
-      wrong-16 h g = back (i .short) (i .whole) (r .rising) (r .within) h (g .some) (g .below)
+      wrong-16 h g = back (an-image d (s .image) i) (r .rising) (r .within) h (g .some) (g .below)
 
   pub wrong-none : Askable d p s → wrongIn d p s ≡ 0
   wrong-none q =
       let i = q .records in
       let r = q .run in
-      ⊎-elim (λ (z : s .used ≡ 0). none-used (i .short) (i .whole) (r .rising) (r .within) (q .counted) (omega arith))
-      (on (i .short) (i .whole) (r .rising) (r .within) (q .counted)) (q .goes-on)
+      ⊎-elim (λ (z : s .used ≡ 0). none-used (an-image d (s .image) i) (r .rising) (r .within) (q .counted) (omega arith))
+      (on (an-image d (s .image) i) (r .rising) (r .within) (q .counted)) (q .goes-on)
 
 -- ---- one of the rows holds
 

@@ -1,11 +1,32 @@
 // What may be asked of a pass over a run of an image, over records of any edition: the refusals before a record is looked at.
 ghost use mathlib.Core.Path.{_≡_};
 ghost use Prim.Native.Nat.{_≤_};
-ghost use Rattle.asked.specs.Pass.{passOver, stateOf, roomIn, lastStamp, wrongIn};
+ghost use Rattle.asked.specs.Pass.{passOver, stateOf, noImage, roomIn, lastStamp, wrongIn};
 use record::CHECK;
 use record::HEAD;
 use record::IMAGE_BOUND;
 use record::STAMP;
+
+// Whether bytes are no image: half a record, or too many records.
+pub fn no_image(d: usize, image: &[u8]) -> bool
+    requires { ⌜ d ≤ 16 ⌝ }
+    ensures { λ b. ⌜ b ≡ noImage d (now (image .entry)) ⌝ }
+{
+    let size = d + CHECK;
+    let limit = IMAGE_BOUND / size * size;
+    if image.len() > limit {
+        return true;
+    }
+    image.len() % size != 0
+}
+
+// How many entries a journal has room for.
+pub fn room(d: usize, journal: &[u8]) -> usize
+    requires { ⌜ d ≤ 16 ⌝ }
+    ensures { λ n. ⌜ n ≡ roomIn d (now (journal .entry)) ⌝ }
+{
+    journal.len() / (HEAD + 2 * (d + CHECK))
+}
 
 // The stamp of the last entry in use.
 fn last_stamp(d: usize, journal: &[u8], used: usize) -> u64
@@ -32,21 +53,16 @@ pub fn wrong_in(
     requires { ⌜ d ≤ 16 ⌝ }
     ensures { λ n. ⌜ n ≡ wrongIn d (passOver start end stamp) (stateOf (now (image .entry)) (now (journal .entry)) used) ⌝ }
 {
-    let size = d + CHECK;
-    let limit = IMAGE_BOUND / size * size;
-    if image.len() > limit {
-        return 12;
-    }
-    if image.len() % size != 0 {
+    if no_image(d, image) {
         return 12;
     }
     if start > end {
         return 14;
     }
-    if end > image.len() / size {
+    if end > image.len() / (d + CHECK) {
         return 14;
     }
-    if used > journal.len() / (HEAD + 2 * size) {
+    if used > room(d, journal) {
         return 17;
     }
     if used == 0 {

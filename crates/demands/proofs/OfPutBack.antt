@@ -1,7 +1,7 @@
 -- The demands on the put-back, proved from the layers' laws. Assumes nothing.
 use Prim.{tt}
 use mathlib.Core.Path.{_≡_, sym, ap, subst, _∙_}
-use mathlib.Core.Logic.{_⊎_, _↔_, inl, inr}
+use mathlib.Core.Logic.{_⊎_, _↔_}
 use mathlib.Core.List.{List, [], _∷_}
 use Prim.Native.Nat.{ℕ, suc, _*_, _≤_, _<_}
 use native.Mathlib.Nat.{mul-le-mul-right}
@@ -10,10 +10,11 @@ use Rattle.record.specs.Layout.{dataSize, entrySize}
 use Rattle.record.specs.Run.{recordAt}
 use Rattle.runs.proofs.Run.{record-take}
 use Rattle.asked.specs.Pass.{State, stateOf}
-use Rattle.asked.specs.Asked.{Image, NoImage}
+use Rattle.asked.specs.Asked.{Image}
+use Rattle.asked.proofs.Cases.{not-one, an-image}
 use Rattle.passes.specs.Twice.{stepsAfter}
 use Rattle.put_back.specs.Back.{Returned, keptBy, returnedBy, backFrom}
-use Rattle.put_back.proofs.Answers.{back-long, back-uneven, back-over, back-all}
+use Rattle.put_back.proofs.Answers.{back-none, back-over, back-all}
 use Rattle.history.proofs.Undone.{AllKnown}
 use Rattle.history.proofs.Restored.{restored}
 use Rattle.history.proofs.Exactly as exactly
@@ -27,19 +28,18 @@ use Rattle.demands.proofs.OfPasses.{known, steps-of, same-after}
 -- ---- its answers
 
 pub put-back-refuses : demands.PutBackRefuses
-put-back-refuses s = (λ h. said 12 (no-image h), λ i h. said 17 (back-over dataSize (s .image) (s .journal) (s .used) (i .short) (i .whole) h))
+put-back-refuses s = (
+  λ h. said 12 (back-none dataSize (s .image) (s .journal) (s .used) (not-one dataSize (s .image) h)),
+  λ i h. said 17 (back-over dataSize (s .image) (s .journal) (s .used) (an-image dataSize (s .image) i) h),
+)
   where
     said : (n : ℕ) → putBackOf (s .image) (s .journal) (s .used) ≡ keptBy n (s .image)
         → (answerBack s ≡ record { number = n; told = 0; count = 0 }) × (imageBack s ≡ s .image)
     said n e = (ap (λ (r : Returned). r .answer) e, ap (λ (r : Returned). r .image) e)
 
-    no-image : NoImage dataSize (s .image) → putBackOf (s .image) (s .journal) (s .used) ≡ keptBy 12 (s .image)
-    no-image (inl h) = back-uneven dataSize (s .image) (s .journal) (s .used) h
-    no-image (inr h) = back-long dataSize (s .image) (s .journal) (s .used) h
-
 module _ (s : State) (i : Image dataSize (s .image)) (h : s .used ≤ room (s .journal)) where
   reaches : returnedBy (backFrom dataSize (s .journal) (s .used) 0 (s .image)) ≡ putBackOf (s .image) (s .journal) (s .used)
-  reaches = sym (back-all dataSize (s .image) (s .journal) (s .used) (i .short) (i .whole) h)
+  reaches = sym (back-all dataSize (s .image) (s .journal) (s .used) (an-image dataSize (s .image) i) h)
 
 pub put-back-exactly : demands.PutBackExactly
 put-back-exactly s i h =

@@ -1,26 +1,26 @@
 -- THE PROMISE OF THE PUT-BACK: after any passes from an empty journal, done or refused, each under its own code and told the true count in
 -- use, putting all entries back restores the first image. Assumes nothing.
 use mathlib.Core.Path.{_≡_, refl, sym, ap, subst, _∙_}
-use mathlib.Core.Bool.{Bool, true, false}
+use mathlib.Core.Bool.{true, false}
 use mathlib.Core.Logic.{_⊎_, inl, inr}
 use mathlib.Core.List.{List, [], _∷_}
 use Prim.Native.Nat.{ℕ, _+_, _/_, _%_, _≤_, _<_}
 use native.Mathlib.Nat.{zero-add}
 use native.Mathlib.Omega.{arith}
-use borrow.Author.Tests.{eqb-true, eqb-false}
-use lib.Dec.{eqb}
 use lib.ListN.{length}
 use Rattle.parity.proofs.Ones.{below-or-not}
 use Rattle.record.specs.Layout.{recordSize, entrySize, imageLimit}
 use Rattle.code.specs.declared.Opened.{Opened}
-use Rattle.asked.specs.Pass.{Pass, State, roomIn}
+use Rattle.asked.specs.Pass.{Pass, State, noImage, roomIn}
 use Rattle.asked.specs.Asked.{Image}
+use Rattle.asked.proofs.Cases.{not-one, an-image}
 use Rattle.passes.specs.Twice.{stateAfter, Step, stepsAfter}
 use Rattle.passes.proofs.Rows.{Ended, ended}
 use Rattle.passes.proofs.Facts.{asked, in-use-after, length-image, length-journal}
+use Rattle.passes.proofs.Alike.{same-image}
 use Rattle.passes.proofs.Stamps.{Known, refused-stays, used-after}
 use Rattle.put_back.specs.Back.{Back, backFrom, keptBy, returnedBy, putBackOf}
-use Rattle.put_back.proofs.Answers.{back-long, back-uneven, back-all}
+use Rattle.put_back.proofs.Answers.{back-none, back-all}
 use Rattle.history.proofs.Undone.{AllKnown, steps-restore}
 
 -- ---- what stays within its bounds
@@ -76,20 +76,19 @@ steps-stay d [] s k none = refl
 steps-stay d (x ∷ xs) s k none =
     ap (stepsAfter d xs) (step-stays (x .under) d (x .pass) s (k .0) none) ∙ steps-stay d xs s (k .1) none
 
+-- the test for an image says which it is
 data Told (d : ℕ) (image : List ℕ) : Type 0 where
   whole : Image d image → Told d image
-  none : ¬ (Image d image) → ((journal : List ℕ) (used : ℕ) → putBackOf d image journal used ≡ keptBy 12 image) → Told d image
+  none : ¬ (Image d image) → noImage d image ≡ true → Told d image
 
 told : (d : ℕ) (image : List ℕ) → Told d image
-told d image = by-length (below-or-not (imageLimit d) (length image))
+told d image = by-length (below-or-not (imageLimit d) (length image)) (below-or-not 0 (length image % recordSize d))
   where
-    by-rest : length image ≤ imageLimit d → (b : Bool) → eqb (length image % recordSize d) 0 ≡ b → Told d image
-    by-rest h true e = whole (record { whole = eqb-true _ _ e; short = h })
-    by-rest h false e = none (λ i. eqb-false _ _ e (i .whole)) (λ journal used. back-uneven d image journal used (eqb-false _ _ e))
-
-    by-length : (imageLimit d < length image) ⊎ (length image ≤ imageLimit d) → Told d image
-    by-length (inl h) = none (λ i. omega (arith, i .short)) (λ journal used. back-long d image journal used h)
-    by-length (inr h) = by-rest h (eqb (length image % recordSize d) 0) refl
+    by-length : (imageLimit d < length image) ⊎ (length image ≤ imageLimit d)
+        → (0 < length image % recordSize d) ⊎ (length image % recordSize d ≤ 0) → Told d image
+    by-length (inl h) m = none (λ i. omega (arith, i .short)) (not-one d image (inr h))
+    by-length (inr h) (inl m) = none (λ i. omega (arith, i .whole)) (not-one d image (inl (λ e. omega arith)))
+    by-length (inr h) (inr m) = whole (record { whole = omega arith; short = h })
 
 -- ---- THE PROMISE, from an empty journal
 
@@ -116,8 +115,7 @@ module _ (d : ℕ) (xs : List Step) (s : State) (known : AllKnown xs) (empty : s
       → putBackOf d (t .image) (t .journal) (t .used) ≡ record { answer = record { number = 0; told = 0; count = t .used }; image = s .image }
   whole-back i =
       let long = bounded .image-long in
-      back-all d (t .image) (t .journal) (t .used)
-      (omega (arith, long, i .short)) (ap (λ n. n % recordSize d) long ∙ i .whole) (bounded .counted)
+      back-all d (t .image) (t .journal) (t .used) (an-image d (t .image) (same-image d (s .image) (t .image) long i)) (bounded .counted)
       ∙ ap returnedBy all-back
 
   -- the first image is restored; where it was one, all entries in use are put back
@@ -130,6 +128,6 @@ module _ (d : ℕ) (xs : List Step) (s : State) (known : AllKnown xs) (empty : s
       go (Told.whole i) = (ap (λ r. r .image) (whole-back i), λ i. ap (λ r. r .answer) (whole-back i))
       go (Told.none n same) =
           let e = steps-stay d xs s known n in (
-            ap (λ u. putBackOf d (u .image) (u .journal) (u .used) .image) e ∙ ap (λ r. r .image) (same (s .journal) (s .used)),
+            ap (λ u. putBackOf d (u .image) (u .journal) (u .used) .image) e ∙ ap (λ r. r .image) (back-none d (s .image) (s .journal) (s .used) same),
             λ i. absurd (n i),
           )

@@ -4,9 +4,6 @@ ghost use Prim.Native.Nat.{_≤_};
 ghost use Rattle.asked.specs.Pass.{roomIn};
 ghost use Rattle.put_back.specs.Back.{refusedBack, returnedBy, backFrom, putBackOf};
 use entry_back::Step;
-use record::CHECK;
-use record::HEAD;
-use record::IMAGE_BOUND;
 
 // The answer of a put-back: how many entries were put back, also where it stopped (18).
 #[repr(C)]
@@ -59,15 +56,10 @@ pub fn put_back(d: usize, image: &mut [u8], journal: &[u8], used: usize) -> PutB
     ensures { λ a. ⌜ a ≡ putBackOf d (now (image .entry)) (now (journal .entry)) used .answer ⌝ }
     ensures { λ _. ⌜ now (image .exit) ≡ putBackOf d (now (image .entry)) (now (journal .entry)) used .image ⌝ }
 {
-    let size = d + CHECK;
-    let limit = IMAGE_BOUND / size * size;
-    if image.len() > limit {
+    if asked::no_image(d, image) {
         return refused_back(12);
     }
-    if image.len() % size != 0 {
-        return refused_back(12);
-    }
-    if used > journal.len() / (HEAD + 2 * size) {
+    if used > asked::room(d, journal) {
         return refused_back(17);
     }
     back_in(d, image, journal, used)

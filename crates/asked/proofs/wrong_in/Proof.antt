@@ -1,13 +1,11 @@
 -- `asked::wrong_in` meets its contract: each test that fails gives its number. Assumes nothing.
-use mathlib.Core.Path.{_≡_, sym, ap}
-use Prim.Native.Nat.{_+_, _*_, _/_}
+use mathlib.Core.Path.{_≡_, sym, _∙_}
+use mathlib.Core.Bool.{false}
+use Prim.Native.Nat.{_≤_}
 use native.Mathlib.Omega.{arith}
 use borrow.Author.Needs.{needs}
-use lib.ListN.{length}
-use Rattle.record.specs.Layout.{headSize, recordSize, entrySize}
-use Rattle.asked.specs.Pass.{Pass, State, passOver, stateOf, roomIn}
-use Rattle.runs.proofs.Sizes.{quotient-back}
-use Rattle.asked.proofs.Cases.{too-long, uneven, turned-round, past, over-used, back, none-used, on}
+use Rattle.asked.specs.Pass.{Pass, State, passOver, stateOf, noImage, roomIn}
+use Rattle.asked.proofs.Cases.{none-lent, turned-round, past, over-used, back, none-used, on}
 use Rattle.asked.proofs.wrong_in.Statement.{statement}
 use Rattle.asked.proofs.wrong_in.Tie as tie
 
@@ -18,113 +16,96 @@ told s = let a = s .args in passOver (a .start) (a .end) (a .stamp)
 abbrev held : tie.Start → State
 held s = let a = s .args in stateOf (a .image .now) (a .journal .now) (a .used)
 
--- an entry's size, as it is written here
-room-is : (s : tie.Start) → let l = s .args .journal .now in length l / (headSize + 2 * recordSize (s .args .d)) ≡ roomIn (s .args .d) l
-room-is s =
-    let e : headSize + 2 * recordSize (s .args .d) ≡ entrySize (s .args .d) = omega arith in
-    ap (λ n. length (s .args .journal .now) / n) e
+-- the arguments, from behind the test of the image, and from behind the count of the room
+abbrev start : tie.After-no-image → tie.Start
+start c = c .before .before .before
 
-add-size : tie.Need-add-size
-add-size c = search needs
+abbrev first : tie.After-room → tie.Else1
+first c = c .before .before .before
 
-div-limit : tie.Need-div-limit
-div-limit c = search needs
+abbrev early : tie.After-room → tie.Start
+early c = start (first c .before)
 
-mul-limit : tie.Need-mul-limit
-mul-limit c =
-    record { fits = quotient-back (recordSize (c .before .before .args .d)) (omega arith) }
+-- the image is one; and the entries in use are within the room
+one : (c : tie.Else1) → let a = start (c .before) .args in noImage (a .d) (a .image .now) ≡ false
+one c = sym (c .before .no-image .ensures) ∙ c .if1 .left
+
+counted : (c : tie.Else4) → let a = early (c .before) .args in a .used ≤ roomIn (a .d) (a .journal .now)
+counted c = omega (arith, c .if4 .left, c .before .room .ensures)
+
+no-image-requires : tie.Need-no-image-requires
+no-image-requires c κs = search needs
 
 returns : tie.Need-returns
 returns c =
-    let s = c .before .before .before in
-    sym (too-long (s .args .d) (told s) (held s) (c .if1 .taken))
-
-rem-if2 : tie.Need-rem-if2
-rem-if2 c = search needs
+    let s = start (c .before) in
+    sym (none-lent (s .args .d) (told s) (held s) (sym (c .before .no-image .ensures) ∙ c .if1 .taken))
 
 returns-2 : tie.Need-returns-2
 returns-2 c =
-    let s = c .before .before .before .before in
-    sym (uneven (s .args .d) (told s) (held s) (c .if2 .taken))
+    let s = start (c .before .before) in
+    sym (turned-round (s .args .d) (told s) (held s) (one (c .before)) (c .if2 .taken))
+
+add-if3 : tie.Need-add-if3
+add-if3 c = search needs
+
+div-if3 : tie.Need-div-if3
+div-if3 c = search needs
 
 returns-3 : tie.Need-returns-3
 returns-3 c =
-    let s = c .before .before .before .before .before in
-    sym (turned-round (s .args .d) (told s) (held s) (c .before .before .if1 .left) (c .before .if2 .left) (c .if3 .taken))
+    let s = start (c .before .before .before) in
+    sym (past (s .args .d) (told s) (held s) (one (c .before .before)) (c .if3 .taken))
 
-div-if4 : tie.Need-div-if4
-div-if4 c = search needs
+room-requires : tie.Need-room-requires
+room-requires c κs = search needs
 
 returns-4 : tie.Need-returns-4
 returns-4 c =
-    let s = c .before .before .before .before .before .before in
-    sym (past (s .args .d) (told s) (held s) (c .before .before .before .if1 .left) (c .before .before .if2 .left) (c .if4 .taken))
-
-mul-if5 : tie.Need-mul-if5
-mul-if5 c = search needs
-
-add-if5 : tie.Need-add-if5
-add-if5 c = search needs
-
-div-if5 : tie.Need-div-if5
-div-if5 c = search needs
+    let r = c .before in
+    let s = early r in
+    sym (over-used (s .args .d) (told s) (held s) (one (first r)) (r .before .before .if2 .left) (r .before .if3 .left)
+    (omega (arith, c .if4 .taken, r .room .ensures)))
 
 returns-5 : tie.Need-returns-5
 returns-5 c =
-    let t = c .before in
-    let s = t .before .before .before .before .before .before in
-    sym (over-used (s .args .d) (told s) (held s) (t .before .before .before .if1 .left) (t .before .before .if2 .left)
-    (t .before .if3 .left) (t .if4 .left) (omega (arith, c .if5 .taken, room-is s)))
+    let r = c .before .before in
+    let s = early r in
+    sym (none-used (s .args .d) (told s) (held s) (one (first r)) (r .before .before .if2 .left) (r .before .if3 .left)
+    (counted (c .before)) (omega arith))
+
+last-stamp-requires : tie.Need-last-stamp-requires
+last-stamp-requires c κs = (early (c .before .before) .pre, (omega arith, counted (c .before)))
 
 returns-6 : tie.Need-returns-6
 returns-6 c =
-    let t = c .before .before in
-    let s = t .before .before .before .before .before .before in
-    sym (none-used (s .args .d) (told s) (held s) (t .before .before .before .if1 .left) (t .before .before .if2 .left)
-    (t .before .if3 .left) (t .if4 .left) (omega (arith, c .before .if5 .left, room-is s)) (omega arith))
-
-last-stamp-requires : tie.Need-last-stamp-requires
-last-stamp-requires c κs =
-    let t = c .before .before in
-    let s = t .before .before .before .before .before .before in
-    (s .pre, (omega arith, omega (arith, c .before .if5 .left, room-is s)))
+    let e = c .before .before in
+    let r = e .before .before in
+    let s = early r in
+    sym (back (s .args .d) (told s) (held s) (one (first r)) (r .before .before .if2 .left) (r .before .if3 .left)
+    (counted (e .before)) (omega arith) (omega (arith, c .if6 .taken, c .before .last-stamp .ensures)))
 
 returns-7 : tie.Need-returns-7
 returns-7 c =
     let e = c .before .before in
-    let t = e .before .before in
-    let s = t .before .before .before .before .before .before in
-    sym (back (s .args .d) (told s) (held s) (t .before .before .before .if1 .left) (t .before .before .if2 .left)
-    (t .before .if3 .left) (t .if4 .left) (omega (arith, e .before .if5 .left, room-is s)) (omega arith)
-    (omega (arith, c .if7 .taken, c .before .last-stamp .ensures)))
-
-returns-8 : tie.Need-returns-8
-returns-8 c =
-    let e = c .before .before in
-    let t = e .before .before in
-    let s = t .before .before .before .before .before .before in
-    sym (on (s .args .d) (told s) (held s) (t .before .before .before .if1 .left) (t .before .before .if2 .left)
-    (t .before .if3 .left) (t .if4 .left) (omega (arith, e .before .if5 .left, room-is s))
-    (omega (arith, c .if7 .left, c .before .last-stamp .ensures)))
+    let r = e .before .before in
+    let s = early r in
+    sym (on (s .args .d) (told s) (held s) (one (first r)) (r .before .before .if2 .left) (r .before .if3 .left)
+    (counted (e .before)) (omega (arith, c .if6 .left, c .before .last-stamp .ensures)))
 
 pub wrong-in-spec : {M : Type 1} → statement M
 wrong-in-spec =
     tie.close
     (tie.spec
-    add-size
-    div-limit
-    mul-limit
+    no-image-requires
     returns
-    rem-if2
     returns-2
+    add-if3
+    div-if3
     returns-3
-    div-if4
+    room-requires
     returns-4
-    mul-if5
-    add-if5
-    div-if5
     returns-5
-    returns-6
     last-stamp-requires
-    returns-7
-    returns-8)
+    returns-6
+    returns-7)

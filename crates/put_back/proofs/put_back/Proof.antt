@@ -1,112 +1,83 @@
 -- `put_back::put_back` meets its contract: 12, 17, and then what the entries say. Assumes nothing.
-use mathlib.Core.Path.{_≡_, refl, ap, _∙_}
-use Prim.Native.Nat.{_+_, _*_, _/_, _≤_}
+use mathlib.Core.Path.{_≡_, refl, sym, _∙_}
+use mathlib.Core.Bool.{false}
 use native.Mathlib.Omega.{arith}
 use borrow.Author.Needs.{needs}
-use lib.ListN.{length}
-use Rattle.record.specs.Layout.{headSize, recordSize, entrySize}
-use Rattle.runs.proofs.Sizes.{quotient-back}
-use Rattle.asked.specs.Pass.{roomIn}
-use Rattle.put_back.proofs.Answers.{back-long, back-uneven, back-over, back-all, both}
+use Rattle.asked.specs.Pass.{noImage}
+use Rattle.put_back.proofs.Answers.{back-none, back-over, back-all, both}
 use Rattle.put_back.proofs.put_back.Statement.{statement}
 use Rattle.put_back.proofs.put_back.Tie as tie
 
--- an entry's size, as it is written here
-room-is : (s : tie.Start) → let l = s .args .journal .now in length l / (headSize + 2 * recordSize (s .args .d)) ≡ roomIn (s .args .d) l
-room-is s =
-    let e : headSize + 2 * recordSize (s .args .d) ≡ entrySize (s .args .d) = omega arith in
-    ap (λ n. length (s .args .journal .now) / n) e
+-- the arguments, from behind the test of the image; and that it is one
+abbrev start : tie.After-no-image → tie.Start
+start c = c .before .before .before .before
 
-add-size : tie.Need-add-size
-add-size c = search needs
+one : (c : tie.Else1) → let a = start (c .before) .args in noImage (a .d) (a .image .now) ≡ false
+one c = sym (c .before .no-image .ensures) ∙ c .if1 .left
 
-div-limit : tie.Need-div-limit
-div-limit c = search needs
-
-mul-limit : tie.Need-mul-limit
-mul-limit c =
-    record { fits = quotient-back (recordSize (c .before .before .args .d)) (omega arith) }
+no-image-requires : tie.Need-no-image-requires
+no-image-requires c κs = search needs
 
 refused-back-requires : tie.Need-refused-back-requires
 refused-back-requires c κs = search needs
 
+same-length : tie.Need-same-length
+same-length c = search needs
+
 returns : tie.Need-returns
 returns c =
     let t = c .before in
-    let s = t .before .before .before in
-    let a = s .args in
-    both _ _ (back-long (a .d) (a .image .now) (a .journal .now) (a .used) (t .if1 .taken)) (c .refused-back .ensures) refl
+    let a = start (t .before) .args in
+    both _ _ (back-none (a .d) (a .image .now) (a .journal .now) (a .used) (sym (t .before .no-image .ensures) ∙ t .if1 .taken))
+    (c .refused-back .ensures) refl
 
-rem-if2 : tie.Need-rem-if2
-rem-if2 c = search needs
+room-requires : tie.Need-room-requires
+room-requires c κs = search needs
 
 refused-back-requires-2 : tie.Need-refused-back-requires-2
 refused-back-requires-2 c κs = search needs
 
+same-length-2 : tie.Need-same-length-2
+same-length-2 c = search needs
+
 returns-2 : tie.Need-returns-2
 returns-2 c =
-    let t = c .before in
-    let s = t .before .before .before .before in
-    let a = s .args in
-    both _ _ (back-uneven (a .d) (a .image .now) (a .journal .now) (a .used) (t .if2 .taken)) (c .refused-back2 .ensures) refl
-
-mul-if3 : tie.Need-mul-if3
-mul-if3 c = search needs
-
-add-if3 : tie.Need-add-if3
-add-if3 c = search needs
-
-div-if3 : tie.Need-div-if3
-div-if3 c = search needs
-
-refused-back-requires-3 : tie.Need-refused-back-requires-3
-refused-back-requires-3 c κs = search needs
-
-returns-3 : tie.Need-returns-3
-returns-3 c =
-    let t = c .before in
-    let s = t .before .before .before .before .before in
-    let a = s .args in
+    let r = c .before .before in
+    let a = start (r .before .before) .args in
     both _ _
-    (back-over (a .d) (a .image .now) (a .journal .now) (a .used) (t .before .before .if1 .left) (t .before .if2 .left)
-    (omega (arith, t .if3 .taken, room-is s))) (c .refused-back3 .ensures) refl
+    (back-over (a .d) (a .image .now) (a .journal .now) (a .used) (one (r .before)) (omega (arith, c .before .if2 .taken, r .room .ensures)))
+    (c .refused-back2 .ensures) refl
 
 back-in-requires : tie.Need-back-in-requires
 back-in-requires c κs =
-    let s = c .before .before .before .before .before .before in
-    (s .pre, omega (arith, c .before .if3 .left, room-is s))
+    let r = c .before .before in
+    (start (r .before .before) .pre, omega (arith, c .before .if2 .left, r .room .ensures))
 
-same-length : tie.Need-same-length
-same-length c = search needs
+same-length-3 : tie.Need-same-length-3
+same-length-3 c = search needs
 
-returns-4 : tie.Need-returns-4
-returns-4 c =
+returns-3 : tie.Need-returns-3
+returns-3 c =
     let b = c .before .before in
-    let t = b .before .before in
-    let s = c .before .before .before .before .before .before .before .before .before in
-    let a = s .args in
+    let e = b .before .before in
+    let r = e .before in
+    let a = start (r .before .before) .args in
     both _ _
-    (back-all (a .d) (a .image .now) (a .journal .now) (a .used) (t .before .before .if1 .left) (t .before .if2 .left)
-    (omega (arith, t .if3 .left, room-is s)))
+    (back-all (a .d) (a .image .now) (a .journal .now) (a .used) (one (r .before)) (omega (arith, e .if2 .left, r .room .ensures)))
     (b .back-in .ensures .0) (b .back-in .ensures .1)
 
 pub put-back-spec : {M : Type 1} → statement M
 put-back-spec =
     tie.close
     (tie.spec
-    add-size
-    div-limit
-    mul-limit
+    no-image-requires
     refused-back-requires
-    returns
-    rem-if2
-    refused-back-requires-2
-    returns-2
-    mul-if3
-    add-if3
-    div-if3
-    refused-back-requires-3
-    returns-3
-    back-in-requires
     same-length
-    returns-4)
+    returns
+    room-requires
+    refused-back-requires-2
+    same-length-2
+    returns-2
+    back-in-requires
+    same-length-3
+    returns-3)
