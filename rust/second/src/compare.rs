@@ -193,7 +193,7 @@ pub fn compare(desks: &[&dyn Desk], amounts: &Amounts) -> Result<Vec<Line>, Box<
         ask("card check", desks, cards, |d, c| d.card_check(&c.code, c.b), |a| a.number)?,
         ask("pass", desks, images, passed, |a| a.0.number)?,
         ask("passes", desks, turns, passed_in_turn, |a| a.0.last().map_or(0, |last| last.number))?,
-        ask_promised("orders", desks, orders, |o| Some(vec![promised_orders(o)]), in_every_order, |a| a[0].answers[0].0)?,
+        ask_promised("orders", desks, orders, |o| Some(promised_orders(o)), in_every_order, |a| a[0].answers[0].0)?,
         ask_promised("overlaps", desks, overlaps, |o| Some(promised_overlap(o)), both_passed, |a| a.numbers[0])?,
         ask("put back", desks, backs, put_back, |a| a.0.number)?,
         ask_promised("history", desks, histories, |h| Some(promised(h)), history, |a| a.back.0.number)?,

@@ -46,8 +46,8 @@ fn parted(journal: &Lent, from: usize, to: usize) -> (Vec<u8>, Vec<Vec<u8>>, Vec
     (front.to_vec(), new.chunks_exact(ENTRY).map(<[u8]>::to_vec).collect(), tail.to_vec())
 }
 
-/// What every order of the passes must leave.
-pub fn promised_orders(case: &OrdersCase) -> Left {
+/// What every order of the passes must leave: one and the same.
+pub fn promised_orders(case: &OrdersCase) -> Vec<Left> {
     let seen = read_all(&case.code, &case.image);
     let is_passed = |one: &&Seen| case.runs.iter().any(|&(start, end)| start <= one.record && one.record < end);
     let passed: Vec<&Seen> = seen.iter().filter(is_passed).collect();
@@ -63,7 +63,7 @@ pub fn promised_orders(case: &OrdersCase) -> Left {
     };
     let (front, _, tail) = parted(&Lent::new(&case.journal), case.used, case.used + entries.len());
     let answers = case.runs.iter().map(tally).collect();
-    Left { image: Lent::new(&image).all().to_vec(), front, tail, entries, is_stamped: true, answers }
+    vec![Left { image: Lent::new(&image).all().to_vec(), front, tail, entries, is_stamped: true, answers }]
 }
 
 /// What one order of the passes leaves: the runs by their places in the case, in the order in which they are passed over.
