@@ -90,5 +90,15 @@ int main(void) {
     FIELD(ByteReading, verdict);
     FIELD(ByteReading, byte);
     FIELD(ByteReading, word);
+    STRUCT(Recovered);
+    FIELD(Recovered, number);
+    FIELD(Recovered, told);
+    FIELD(Recovered, data);
+    FIELD(Recovered, check);
+    STRUCT(BadPlaces);
+    FIELD(BadPlaces, number);
+    FIELD(BadPlaces, told);
+    FIELD(BadPlaces, data);
+    FIELD(BadPlaces, check);
     return 0;
 }

@@ -475,6 +475,56 @@ static void byte_refusals(void) {
     expect("refused by 7: a bit at 30 or above, with byte number 0", refused);
 }
 
+static int same_word(DeskRecovered a, size_t number, size_t told, uint64_t data, uint16_t check) {
+    return a.number == number && a.told == told && a.data == data && a.check == check;
+}
+
+static int same_places(DeskBadPlaces a, size_t number, size_t told, uint64_t data, uint16_t check) {
+    return a.number == number && a.told == told && a.data == data && a.check == check;
+}
+
+/* A6 with 27 is A5 with 27 flipped at places 0 and 1; A6 with 25 also at place 9. */
+static void bad_fields(void) {
+    static const size_t bad[] = {9, 1, 0}, sound[] = {3, 7, 12};
+    const uint64_t data = 0x8877665544332211;
+    const size_t ends[] = {71, 63, 0};
+    expect("desk_recover: three bad places", same_word(desk_recover(sample(), 0xA6, 25, bad, 3), 0, 0, 0xA5, 27));
+    expect("desk_recover: two", same_word(desk_recover(sample(), 0xA6, 27, bad + 1, 2), 0, 0, 0xA5, 27));
+    expect("desk_recover: one, and a flip beside it",
+           same_word(desk_recover(sample(), 0xA6, 27, bad + 2, 1), 0, 0, 0xA5, 27));
+    expect("desk_recover: none, and no pointer", same_word(desk_recover(sample(), 0xA6, 25, NULL, 0), 0, 0, 0xA6, 29));
+    expect("desk_recover: none of them is wrong",
+           same_word(desk_recover(sample(), 0xA5, 27, sound, 3), 0, 0, 0xA5, 27));
+    uint16_t check = desk_write(full(8), data).check;
+    expect("desk_recover: the first, the last data and the last check place",
+           same_word(desk_recover(full(8), data ^ (uint64_t)1 << 63 ^ 1, check ^ 0x80, ends, 3), 0, 0, data, check));
+    expect("desk_find_bad: every field", same_places(desk_find_bad(sample(), 0xA5, 27, 0x5B, 5), 0, 0, 1, 1));
+    expect("desk_find_bad: no place", same_places(desk_find_bad(sample(), 0xA5, 27, 0x5A, 4), 0, 0, 0, 0));
+    expect("desk_find_bad: every place below n, and none above",
+           same_places(desk_find_bad(sample(), 1, 2, 1, 2), 0, 0, 0xFF, 31) &&
+               same_places(desk_find_bad(full(8), 1, 2, 1, 2), 0, 0, UINT64_MAX, 0xFF));
+}
+
+static void bad_refusals(void) {
+    static const size_t four[] = {0, 1, 2, 3}, again[] = {0, 1, 0}, outside[] = {13}, far[] = {0, SIZE_MAX}, two[] = {0, 2};
+    expect("refused by 22: four bad places", same_word(desk_recover(sample(), 0xA5, 27, four, 4), 22, 0, 0, 0));
+    expect("refused by 22: a repeat", same_word(desk_recover(sample(), 0xA5, 27, again, 3), 22, 0, 0, 0));
+    expect("refused by 22: a place at n or above",
+           same_word(desk_recover(sample(), 0xA5, 27, outside, 1), 22, 0, 0, 0) &&
+               same_word(desk_recover(sample(), 0xA5, 27, far, 2), 22, 0, 0, 0));
+    expect("refused by 23: two flips, and none bad", same_word(desk_recover(sample(), 0xA6, 27, NULL, 0), 23, 0, 0, 0));
+    expect("refused by 23: a flip beside two bad places",
+           same_word(desk_recover(sample(), 0xA6, 27, two, 2), 23, 0, 0, 0));
+    expect("refused by 7 before 22", same_word(desk_recover(sample(), 0xA5, 32, four, 4), 7, 0, 0, 0));
+    expect("refused as the code is, before 7", same_word(desk_recover(repeated(), 0x100, 32, four, 4), 6, 5, 0, 0));
+    expect("refused by 7: a stray bit in either read",
+           same_places(desk_find_bad(sample(), 0x100, 0, 0, 0), 7, 0, 0, 0) &&
+               same_places(desk_find_bad(sample(), 0, 32, 0, 0), 7, 0, 0, 0) &&
+               same_places(desk_find_bad(sample(), 0, 0, 0x100, 0), 7, 0, 0, 0) &&
+               same_places(desk_find_bad(sample(), 0, 0, 0, 32), 7, 0, 0, 0));
+    expect("desk_find_bad: refused as the code is", same_places(desk_find_bad(repeated(), 0, 32, 0, 0), 6, 5, 0, 0));
+}
+
 int main(void) {
     version();
     code_fields();
@@ -494,5 +544,7 @@ int main(void) {
     made_fields();
     byte_fields();
     byte_refusals();
+    bad_fields();
+    bad_refusals();
     return finish();
 }

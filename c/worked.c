@@ -131,12 +131,26 @@ static void ask_back(size_t room, size_t used) {
     printf(" %zu %zu %zu", a.number, a.told, a.count);
 }
 
+/* The bad places stand behind the word. */
+static void ask_recover(uint64_t data, uint16_t check, const char *places) {
+    size_t bad[8];
+    size_t count = 0;
+    int after = 0;
+    while (count < 8 && sscanf(places, "%zu%n", &bad[count], &after) == 1) {
+        places += after;
+        count++;
+    }
+    DeskRecovered a = desk_recover(code, data, check, bad, count);
+    printf(" %zu %zu %" PRIX64 " %d", a.number, a.told, a.data, a.check);
+}
+
 /* Prints what is answered to the question before a line's `=`. */
 static void ask(const char *line) {
     size_t a, b, c, used;
-    uint64_t data;
+    uint64_t data, other;
     uint32_t stamp;
-    uint16_t check;
+    uint16_t check, others;
+    int after = 0;
     if (sscanf(line, "wanted %zu %zu", &a, &b) == 2) {
         ask_wanted(a, b);
     } else if (sscanf(line, "make %zu %zu", &a, &b) == 2) {
@@ -165,6 +179,11 @@ static void ask(const char *line) {
         ask_pass(a, b, c, used, stamp);
     } else if (sscanf(line, "back %zu %zu", &a, &used) == 2 && a <= sizeof journal) {
         ask_back(a, used);
+    } else if (sscanf(line, "recover %" SCNx64 " %" SCNu16 "%n", &data, &check, &after) == 2) {
+        ask_recover(data, check, line + after);
+    } else if (sscanf(line, "find %" SCNx64 " %" SCNu16 " %" SCNx64 " %" SCNu16, &data, &check, &other, &others) == 4) {
+        DeskBadPlaces answer = desk_find_bad(code, data, check, other, others);
+        printf(" %zu %zu %" PRIX64 " %d", answer.number, answer.told, answer.data, answer.check);
     } else if (strcmp(line, "left ") == 0) {
         print_bytes(" %02X", image, image_length);
     } else if (strcmp(line, "noted ") == 0) {

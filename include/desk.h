@@ -16,7 +16,7 @@
  *   length      entries of the list, two bytes each
  *   used        entries of the journal, DESK_ENTRY bytes each: those in use before a call, and in a pass's answer those
  *               after it
- *   count       entries of the journal: those that were put back
+ *   count       entries of the journal: those that were put back; handed in with `bad`, the places that it names
  *   told        with 3 to 6 and 21 a place, with 10 entries of the list, with 13 entries of the journal
  *
  * Time. A pass's stamp is any number that does not fall along a journal; what it counts is the caller's affair.
@@ -85,6 +85,9 @@ enum DeskNumber {
                                  not finite or not above zero, a limit's figure not finite or below zero, a band upside
                                  down */
     DESK_LEFTOVER = 21,       /* a place past k is not 0; told: first such place */
+    DESK_BAD_PLACES = 22,     /* more than three bad places, a repeat, or a place at n or above */
+    DESK_NO_CODE_WORD = 23,   /* bad places: no code word differs from the word as read, outside them, in at most one
+                                 place where none or one is bad, in none where two or three are */
 };
 
 /* The field `verdict` of a reading, the seventh byte of a journal entry, and the order of a tally. */
@@ -254,6 +257,22 @@ typedef struct DeskByteReading {
     uint64_t word;
 } DeskByteReading;
 
+/* The answer of desk_recover: the code word. */
+typedef struct DeskRecovered {
+    size_t number;
+    size_t told;
+    uint64_t data;
+    uint16_t check;
+} DeskRecovered;
+
+/* The answer of desk_find_bad: a one for each bad data bit and for each bad check bit. */
+typedef struct DeskBadPlaces {
+    size_t number;
+    size_t told;
+    uint64_t data;
+    uint16_t check;
+} DeskBadPlaces;
+
 /* The version of the archive: DESK_VERSION of the header that goes with it. */
 size_t desk_version(void);
 
@@ -337,6 +356,21 @@ DeskByteWriting desk_byte_write(uint64_t data);
 
 /* What is in the word as read, and the word put right where an error within one byte explains it. */
 DeskByteReading desk_byte_read(uint64_t word);
+
+/*
+ * The code word that differs from the word as read in any of the `count` places that `bad` names and, where none or one is
+ * bad, in at most one place more; there is never a second. Place i below k is data bit i, place k + j check bit j. Their
+ * order does not matter, and a bad place need not be wrong. With none bad it is the word that desk_read hands back with
+ * verdicts 0 to 2. Refuses with 7, 22, 23, each of which tells nothing. `bad` is only read.
+ */
+DeskRecovered desk_recover(DeskCode code, uint64_t data, uint16_t check, const size_t *bad, size_t count);
+
+/*
+ * The bad places that two reads show, after a pattern and then its complement were written: those below n where the two
+ * agree, however many, since a place that keeps what is written differs. Refuses with 7 for a stray bit in either read.
+ */
+DeskBadPlaces desk_find_bad(DeskCode code, uint64_t first_data, uint16_t first_check, uint64_t second_data,
+                            uint16_t second_check);
 
 #ifdef __cplusplus
 }

@@ -12,6 +12,7 @@ use Rattle.demands.proofs.OfSheets as sheets
 use Rattle.demands.proofs.OfMaking as making
 use Rattle.demands.proofs.OfBytes as bytes
 use Rattle.demands.proofs.OfPutBack as back
+use Rattle.demands.proofs.OfBad as bad
 
 pub sizes : demands.Sizes
 sizes = tallies.sizes
@@ -287,3 +288,38 @@ put-back-restores = back.put-back-restores
 
 pub passed-again : demands.PassedAgain
 passed-again = back.passed-again
+
+-- ---- places known to be bad
+
+pub recovering-refuses : demands.RecoveringRefuses
+recovering-refuses = bad.recovering-refuses
+
+pub recovered-exactly : demands.RecoveredExactly
+recovered-exactly = bad.recovered-exactly
+
+pub recovered-only : demands.RecoveredOnly
+recovered-only = bad.recovered-only
+
+pub three-columns : demands.ThreeColumns
+three-columns = bad.three-columns
+
+pub recovered-from-bad : demands.RecoveredFromBad
+recovered-from-bad = bad.recovered-from-bad
+
+pub recovered-as-read : demands.RecoveredAsRead
+recovered-as-read = bad.recovered-as-read
+
+pub recovered-any-order : demands.RecoveredAnyOrder
+recovered-any-order = bad.recovered-any-order
+
+pub finding-refuses : demands.FindingRefuses
+finding-refuses = bad.finding-refuses
+
+pub found-exactly : demands.FoundExactly
+found-exactly = bad.found-exactly
+
+pub stuck-found : demands.StuckFound
+stuck-found = bad.stuck-found
+
+pub found-recovered : demands.FoundRecovered
+found-recovered = bad.found-recovered

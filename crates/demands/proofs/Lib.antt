@@ -12,4 +12,5 @@ pub mod OfOrders
 pub mod OfSheets
 pub mod OfBytes
 pub mod OfPutBack
+pub mod OfBad
 pub mod Demands

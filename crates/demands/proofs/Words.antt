@@ -51,10 +51,10 @@ module _ (code : Code) (a : words.Accepted code) where
       let few = limits-of code a .sized .few in
       omega (arith, data-fits (code .k) w, pow-mono {i = code .k} {j = 64} few)
 
-  low-is : (w : ℕ) → inParts (code .k) w .low ≡ dataOf (code .k) w
+  pub low-is : (w : ℕ) → inParts (code .k) w .low ≡ dataOf (code .k) w
   low-is w = mod-eq-of-lt (narrow w)
 
-  parts-are : (w : ℕ) → wordWith (dataOf (code .k) w) (checkOf (code .k) w) ≡ inParts (code .k) w
+  pub parts-are : (w : ℕ) → wordWith (dataOf (code .k) w) (checkOf (code .k) w) ≡ inParts (code .k) w
   parts-are w =
       let low = low-is w in
       let high : inParts (code .k) w .high ≡ 0 = div-eq-of-lt (narrow w) in

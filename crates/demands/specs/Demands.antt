@@ -3,7 +3,7 @@
 -- answers. In order: records and entries; the code; writing and reading one word; explanations; cards; the tally; the pass; any order of
 -- passes (02's request 113; its words in Orders.antt and in crate orders); station sheets (02's request 107; their words in Sheets.antt);
 -- making a code (02's request 101; its words in Making.antt); words of ten bytes (02's request 114; theirs in Bytes.antt); putting back
--- (02's request 104; its words in PutBack.antt). Assumes nothing.
+-- (02's request 104; its words in PutBack.antt); places known to be bad (02's request 112; theirs in Bad.antt). Assumes nothing.
 use mathlib.Core.Path.{_≡_}
 use mathlib.Core.Logic.{_≢_, _⊎_, _↔_}
 use mathlib.Core.Bool.{true, false, cond}
@@ -61,6 +61,10 @@ use Rattle.demands.specs.Making.{IsMade, noCode}
 use Rattle.demands.specs.Orders.{neededForAll, RunsApart, InSomeOrder, afterAll, asItWas}
 use Rattle.demands.specs.Bytes.{IsByte, Pattern, handing}
 use Rattle.demands.specs.PutBack.{answerBack, imageBack, backWith, fromLast, lastBack, LastMatch, StopsAt}
+use Rattle.recovered.specs.Named.{Repeated, WrongPlaces}
+use Rattle.recovered.specs.Stuck.{ReadBack, complement}
+use Rattle.desk.specs.Answers.{recoveredOf, badPlacesOf}
+use Rattle.demands.specs.Bad.{recover, givenBack, refusedRecovered, Recoverable, findBad, foundIn, refusedBadPlaces}
 
 -- ---- records and entries
 
@@ -819,3 +823,99 @@ PassedAgain =
     → let t = turnsAfter turns s in
     let u = turnsAfter turns (stateOf (imageBack t) journal 0) in
     (u .image ≡ t .image) × (u .used ≡ t .used) × ((m : ℕ) → m < t .used → entryAt (u .journal) m ≡ entryAt (t .journal) m)
+
+-- ---- places known to be bad
+
+-- Recovering refuses in this order: the code's number and place; 7 for a stray bit; 22 for more than three bad places, a repeat, or a place
+-- at n or above; 23, exactly when no code word is near enough (`RecoveredExactly`). Else its number is 0, and nothing is told.
+abbrev pub RecoveringRefuses : Type 0
+RecoveringRefuses =
+    (code : Code) (low high : ℕ) (bad : List ℕ)
+    → let a = recoveredOf code low high bad in
+    (Refused code → a ≡ refusedRecovered (judgementOf code))
+    × (Accepted code → (2 ^ code .k ≤ low) ⊎ (2 ^ code .r ≤ high) → a ≡ refusedRecovered (onlyNumber 7))
+    × (Accepted code → low < 2 ^ code .k → high < 2 ^ code .r → WrongPlaces (placesOf code) bad → a ≡ refusedRecovered (onlyNumber 22))
+    × (Accepted code → low < 2 ^ code .k → high < 2 ^ code .r → ¬ (WrongPlaces (placesOf code) bad)
+    → (a ≡ refusedRecovered (onlyNumber 23)) ⊎ ((a .number ≡ 0) × (a .told ≡ 0)))
+
+-- A word is handed back exactly when it is a code word that differs from that as read, outside the bad places, in at most one place where
+-- none or one is bad, in none where two or three are; 23 exactly when there is no such word.
+abbrev pub RecoveredExactly : Type 0
+RecoveredExactly =
+    (code : Code) → Accepted code → (w : ℕ) → Unstrayed code w → (bad : List ℕ) → ¬ (WrongPlaces (placesOf code) bad)
+    → ((u : ℕ) → (recover code w bad ≡ givenBack code u) ↔ Recoverable code w bad u)
+    × ((recover code w bad ≡ refusedRecovered (onlyNumber 23)) ↔ ((u : ℕ) → ¬ (Recoverable code w bad u)))
+
+-- Where such a word exists it is the only one.
+abbrev pub RecoveredOnly : Type 0
+RecoveredOnly =
+    (code : Code) → Accepted code → (w : ℕ) → Unstrayed code w → (bad : List ℕ) → ¬ (WrongPlaces (placesOf code) bad)
+    → (u v : ℕ) → Recoverable code w bad u → Recoverable code w bad v → u ≡ v
+
+-- The reason: the exclusive or of one, two or three different columns is never 0.
+abbrev pub ThreeColumns : Type 0
+ThreeColumns =
+    (code : Code) → Accepted code
+    → let c = column (matrixOf code) in
+    let n = placesOf code in
+    ((p : ℕ) → p < n → c p ≢ 0)
+    × ((p q : ℕ) → p < n → q < n → p ≢ q → bitXor (c p) (c q) ≢ 0)
+    × ((p q s : ℕ) → p < n → q < n → s < n → p ≢ q → p ≢ s → q ≢ s → bitXor (bitXor (c p) (c q)) (c s) ≢ 0)
+
+-- A code word of which only bad places were changed, and with at most one bad also one place more, is handed back.
+abbrev pub RecoveredFromBad : Type 0
+RecoveredFromBad =
+    (code : Code) → Accepted code → (u w : ℕ) → Unstrayed code u → Clean code u → Unstrayed code w
+    → (bad : List ℕ) → ¬ (WrongPlaces (placesOf code) bad)
+    → (((p : ℕ) → p < placesOf code → ¬ (List·Memᴰ p bad) → bitAt u p ≡ bitAt w p) → recover code w bad ≡ givenBack code u)
+    × (length bad ≤ 1 → (q : ℕ) → ((p : ℕ) → p < placesOf code → ¬ (List·Memᴰ p bad) → p ≢ q → bitAt u p ≡ bitAt w p)
+    → recover code w bad ≡ givenBack code u)
+
+-- With none bad it agrees with reading: a clean or mended word is handed back as reading hands it back, a flagged one is 23.
+abbrev pub RecoveredAsRead : Type 0
+RecoveredAsRead =
+    (code : Code) → Accepted code → (w : ℕ) → Unstrayed code w
+    → (read code w .verdict ≤ 2
+    → recover code w [] ≡ record { number = 0; told = 0; «data» = read code w .«data»; check = read code w .check })
+    × (3 ≤ read code w .verdict → recover code w [] ≡ refusedRecovered (onlyNumber 23))
+
+-- The order of the bad places does not matter.
+abbrev pub RecoveredAnyOrder : Type 0
+RecoveredAnyOrder =
+    (code : Code) → Accepted code → (w : ℕ) → Unstrayed code w → (bad other : List ℕ)
+    → ¬ (WrongPlaces (placesOf code) bad) → ¬ (WrongPlaces (placesOf code) other)
+    → length bad ≡ length other → ((p : ℕ) → List·Memᴰ p bad ↔ List·Memᴰ p other)
+    → recover code w bad ≡ recover code w other
+
+-- The finder refuses in this order: the code's number and place; 7 for a stray bit in either read.
+abbrev pub FindingRefuses : Type 0
+FindingRefuses =
+    (code : Code) (low high low′ high′ : ℕ)
+    → let a = badPlacesOf code low high low′ high′ in
+    (Refused code → a ≡ refusedBadPlaces (judgementOf code))
+    × (Accepted code → ((2 ^ code .k ≤ low) ⊎ (2 ^ code .r ≤ high)) ⊎ ((2 ^ code .k ≤ low′) ⊎ (2 ^ code .r ≤ high′))
+    → a ≡ refusedBadPlaces (onlyNumber 7))
+    × (Accepted code → low < 2 ^ code .k → high < 2 ^ code .r → low′ < 2 ^ code .k → high′ < 2 ^ code .r
+    → (a .number ≡ 0) × (a .told ≡ 0))
+
+-- Place p is a one in its answer exactly when it is below n and the two reads agree there.
+abbrev pub FoundExactly : Type 0
+FoundExactly =
+    (code : Code) → Accepted code → (a b : ℕ) → Unstrayed code a → Unstrayed code b
+    → (p : ℕ) → (bitAt (foundIn code a b) p ≡ 1) ↔ ((p < placesOf code) × (bitAt a p ≡ bitAt b p))
+
+-- If each place keeps what is written or is stuck, two reads after a pattern and its complement name exactly the stuck places.
+abbrev pub StuckFound : Type 0
+StuckFound =
+    (code : Code) → Accepted code → (stuck held w a b : ℕ) → Unstrayed code stuck
+    → ReadBack (placesOf code) stuck held w a → ReadBack (placesOf code) stuck held (complement (placesOf code) w) b
+    → foundIn code a b ≡ stuck
+
+-- And up to three stuck places that were found are recovered: a code word that was written and read back through them is handed back.
+abbrev pub FoundRecovered : Type 0
+FoundRecovered =
+    (code : Code) → Accepted code → (stuck held w a b : ℕ) → Unstrayed code stuck
+    → ReadBack (placesOf code) stuck held w a → ReadBack (placesOf code) stuck held (complement (placesOf code) w) b
+    → (u x : ℕ) → Unstrayed code u → Clean code u → ReadBack (placesOf code) stuck held u x
+    → (bad : List ℕ) → length bad ≤ 3 → ¬ (Repeated bad) → ((p : ℕ) → List·Memᴰ p bad ↔ (bitAt (foundIn code a b) p ≡ 1))
+    → recover code x bad ≡ givenBack code u

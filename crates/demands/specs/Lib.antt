@@ -4,4 +4,5 @@ pub mod Making
 pub mod Orders
 pub mod Bytes
 pub mod PutBack
+pub mod Bad
 pub mod Demands

@@ -31,7 +31,13 @@ use Rattle.make.specs.Made.{makeOf}
 use Rattle.byte_code.specs.declared.ByteWriting.{ByteWriting}
 use Rattle.byte_code.specs.declared.ByteReading.{ByteReading}
 use Rattle.byte_code.specs.Reading as bytes
+use Rattle.recover.specs.declared.Recovery.{Recovery}
+use Rattle.recover.specs.Recover.{recoverOf}
+use Rattle.finder.specs.declared.Found.{Found}
+use Rattle.finder.specs.Finder.{findOf}
 use Rattle.desk.specs.declared.ReadWord.{ReadWord}
+use Rattle.desk.specs.declared.Recovered.{Recovered}
+use Rattle.desk.specs.declared.BadPlaces.{BadPlaces}
 
 -- the version of what a caller links: raised by each landing that changes a struct, a size or a meaning
 abbrev pub version : ℕ
@@ -103,3 +109,17 @@ byteWritten low = bytes.byteWritingOf low
 
 abbrev pub byteRead : ℕ → ByteReading
 byteRead word = bytes.byteReadingOf word
+
+-- the code word that is recovered where some places are bad
+abbrev pub recoveredBy : Recovery → Recovered
+recoveredBy a = record { number = a .number; told = a .told; «data» = a .word .low; check = a .word .check }
+
+abbrev pub recoveredOf : Code → ℕ → ℕ → List ℕ → Recovered
+recoveredOf code low check bad = recoveredBy (recoverOf (openedOf code) (wordWith low check) bad)
+
+-- the bad places that two reads show, as ones
+abbrev pub badPlacesBy : Found → BadPlaces
+badPlacesBy a = record { number = a .number; told = a .told; «data» = a .word .low; check = a .word .check }
+
+abbrev pub badPlacesOf : Code → ℕ → ℕ → ℕ → ℕ → BadPlaces
+badPlacesOf code low check low′ check′ = badPlacesBy (findOf (openedOf code) (wordWith low check) (wordWith low′ check′))

@@ -6,6 +6,7 @@ ghost use Rattle.desk.specs.Answers.{ceilingSheet, bandSheet, openSheet}
 ghost use Rattle.desk.specs.Answers.{madeOf};
 ghost use Rattle.desk.specs.Answers.{byteWritten, byteRead};
 ghost use Rattle.desk.specs.Answers.{putBackOf};
+ghost use Rattle.desk.specs.Answers.{recoveredOf, badPlacesOf};
 use balance::RowBalance;
 use byte_code::ByteReading;
 use byte_code::ByteWriting;
@@ -231,4 +232,71 @@ pub extern "C" fn desk_byte_read(word: u64) -> ByteReading
     ensures { λ a. ⌜ a ≡ byteRead word ⌝ }
 {
     byte_code::read(word)
+}
+
+// Places known to be bad: the code word that differs from the word as read in bad places and in few others.
+#[repr(C)]
+pub struct Recovered {
+    pub number: usize,
+    pub told: usize,
+    pub data: u64,
+    pub check: u16,
+}
+
+#[no_mangle]
+pub extern "C" fn desk_recover(code: Code, data: u64, check: u16, bad: &[usize]) -> Recovered
+    ensures { λ a. ⌜ a ≡ recoveredOf code «data» check (now (bad .entry)) ⌝ }
+{
+    let word = Word {
+        low: data,
+        high: 0,
+        check,
+    };
+    let recovery = recover::recover(code::open_code(code), word, bad);
+    let proper = recovery.word;
+    Recovered {
+        number: recovery.number,
+        told: recovery.told,
+        data: proper.low,
+        check: proper.check,
+    }
+}
+
+// The finder: the places where two reads agree, as ones in data and check bits.
+#[repr(C)]
+pub struct BadPlaces {
+    pub number: usize,
+    pub told: usize,
+    pub data: u64,
+    pub check: u16,
+}
+
+#[no_mangle]
+pub extern "C" fn desk_find_bad(
+    code: Code,
+    first_data: u64,
+    first_check: u16,
+    second_data: u64,
+    second_check: u16,
+) -> BadPlaces
+    ensures { λ a. ⌜ a ≡ badPlacesOf code «first_data» «first_check» «second_data» «second_check» ⌝ }
+{
+    let first = Word {
+        low: first_data,
+        high: 0,
+        check: first_check,
+    };
+    let second = Word {
+        low: second_data,
+        high: 0,
+        check: second_check,
+    };
+    let found = finder::find_bad(code::open_code(code), first, second);
+    let places = found.word;
+    BadPlaces {
+        number: found.number,
+        told: found.told,
+        data: places.low,
+        check: places.check,
+    }
 }

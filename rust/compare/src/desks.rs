@@ -3,7 +3,7 @@
 use crate::program;
 use desk::{ffi, Word};
 use second::{Balanced, CardsChecked, Code, Desk, Explained, Judged, Passed, Reading, Refusal, Wanted, Written};
-use second::{ByteRead, ByteWritten, Limit, Made, Pass, PutBack, Sheeted, Station};
+use second::{ByteRead, ByteWritten, Found, Limit, Made, Pass, PutBack, Recovered, Sheeted, Station};
 
 /// The same code for the linked desk.
 fn linked(code: &Code) -> desk::Code {
@@ -106,6 +106,16 @@ impl Desk for Archive {
     fn byte_read(&self, word: u64) -> ByteRead {
         let ffi::ByteReading { number, told, verdict, byte, word } = ffi::byte_read(word);
         ByteRead { number, told, verdict, byte: byte.0, word }
+    }
+
+    fn recover(&self, code: &Code, data: u64, check: u16, bad: &[usize]) -> Recovered {
+        let ffi::Recovered { number, told, data, check } = ffi::recover(&linked(code), data, check, bad);
+        Recovered { number, told, data, check }
+    }
+
+    fn find_bad(&self, code: &Code, first: (u64, u16), second: (u64, u16)) -> Found {
+        let ffi::BadPlaces { number, told, data, check } = ffi::find_bad(&linked(code), first, second);
+        Found { number, told, data, check }
     }
 
     fn mend(&self, input: &[u8]) -> String {
@@ -221,6 +231,17 @@ impl Desk for Wrapper {
             ..ByteRead::default()
         };
         desk::byte_read(word).map_or_else(|refusal| refused(refusal).into(), done)
+    }
+
+    fn recover(&self, code: &Code, data: u64, check: u16, bad: &[usize]) -> Recovered {
+        let done = |word: Word| Recovered { data: word.data, check: word.check, ..Recovered::default() };
+        linked(code).recover(Word { data, check }, bad).map_or_else(|refusal| refused(refusal).into(), done)
+    }
+
+    fn find_bad(&self, code: &Code, first: (u64, u16), second: (u64, u16)) -> Found {
+        let word = |(data, check)| Word { data, check };
+        let done = |word: Word| Found { data: word.data, check: word.check, ..Found::default() };
+        linked(code).find_bad(word(first), word(second)).map_or_else(|refusal| refused(refusal).into(), done)
     }
 
     fn mend(&self, input: &[u8]) -> String {

@@ -241,6 +241,34 @@ pub struct ByteReading {
     pub word: u64,
 }
 
+/// The answer of [`recover`].
+#[repr(C)]
+#[derive(Clone, Copy, PartialEq, Eq, Debug, Default)]
+pub struct Recovered {
+    /// 0, or the number of the refusal.
+    pub number: usize,
+    /// What goes with the number.
+    pub told: usize,
+    /// The data of the code word.
+    pub data: u64,
+    /// The check bits of the code word.
+    pub check: u16,
+}
+
+/// The answer of [`find_bad`].
+#[repr(C)]
+#[derive(Clone, Copy, PartialEq, Eq, Debug, Default)]
+pub struct BadPlaces {
+    /// 0, or the number of the refusal.
+    pub number: usize,
+    /// What goes with the number.
+    pub told: usize,
+    /// A one for each bad data bit.
+    pub data: u64,
+    /// A one for each bad check bit.
+    pub check: u16,
+}
+
 extern "C" {
     fn desk_version() -> usize;
     fn desk_check_bits(k: usize) -> CheckBits;
@@ -274,6 +302,8 @@ extern "C" {
     fn desk_make(k: usize, r: usize) -> Made;
     fn desk_byte_write(data: u64) -> ByteWriting;
     fn desk_byte_read(word: u64) -> ByteReading;
+    fn desk_recover(code: Code, data: u64, check: u16, bad: *const usize, count: usize) -> Recovered;
+    fn desk_find_bad(code: Code, first_data: u64, first_check: u16, second_data: u64, second_check: u16) -> BadPlaces;
 }
 
 /// Asks the archive, once it is known to be of this crate's version.
@@ -381,4 +411,15 @@ pub fn byte_write(data: u64) -> ByteWriting {
 /// What is in the word of ten bytes as read, and the word put right where an error within one byte explains it.
 pub fn byte_read(word: u64) -> ByteReading {
     ask!(desk_byte_read(word))
+}
+
+/// The code word that differs from the word as read in `bad` places and, where none or one is bad, in one place more;
+/// refuses with 7, 22, 23.
+pub fn recover(code: &Code, data: u64, check: u16, bad: &[usize]) -> Recovered {
+    ask!(desk_recover(*code, data, check, bad.as_ptr(), bad.len()))
+}
+
+/// The places where two reads, after a pattern and its complement were written, agree, as ones; refuses with 7.
+pub fn find_bad(code: &Code, first: (u64, u16), second: (u64, u16)) -> BadPlaces {
+    ask!(desk_find_bad(*code, first.0, first.1, second.0, second.1))
 }

@@ -39,6 +39,7 @@
 pub mod ffi;
 
 mod back;
+mod bad;
 mod bytes;
 mod code;
 mod refusal;

@@ -117,6 +117,13 @@ refusals! {
         "the counts, the hours or the limit make no sheet";
     21 Leftover { place = told "first such place" },
         "a place past k is not 0", "place {place}, past k, is not 0";
+    22 BadPlaces,
+        "more than three bad places, a repeat, or a place at n or above",
+        "the bad places are more than three, name one twice, or name one at n or above";
+    23 NoCodeWord,
+        "bad places: no code word differs from the word as read, outside them, in at most one place where none or one is \
+         bad, in none where two or three are",
+        "no code word is near enough to the word as read";
 }
 
 impl Refusal {

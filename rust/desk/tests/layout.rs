@@ -47,6 +47,8 @@ fn rust_lays_out_every_struct_as_c_does() {
         vec![format!("ByteNumber size {} align {}", size_of::<ByteNumber>(), align_of::<ByteNumber>())],
         lines!(ByteWriting { number, told, word } of Default::default()),
         lines!(ByteReading { number, told, verdict, byte, word } of Default::default()),
+        lines!(Recovered { number, told, data, check } of Default::default()),
+        lines!(BadPlaces { number, told, data, check } of Default::default()),
     ];
     let expected: Vec<&str> = include_str!("../../../c/layout.txt").lines().collect();
     assert_eq!(lines.concat(), expected);

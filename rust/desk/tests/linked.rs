@@ -320,3 +320,50 @@ fn a_refused_word_of_ten_bytes_is_all_zeros() {
         assert_eq!(byte_read(EIGHT | 1 << bit), ByteReading { number: 7, ..Default::default() });
     }
 }
+
+#[test]
+fn recovering_from_bad_places() {
+    let given = |data, check| Recovered { number: 0, told: 0, data, check };
+    let refused = |number| Recovered { number, ..Recovered::default() };
+    // A6 with 27 is A5 with 27 flipped at places 0 and 1; A6 with 25 also at place 9.
+    assert_eq!(recover(&sample(), 0xA6, 27, &[0, 1]), given(0xA5, 27));
+    assert_eq!(recover(&sample(), 0xA6, 27, &[1]), given(0xA5, 27));
+    assert_eq!(recover(&sample(), 0xA6, 27, &[]), refused(23));
+    assert_eq!(recover(&sample(), 0xA6, 27, &[0, 2]), refused(23));
+    for bad in [[0, 1, 9], [9, 1, 0], [1, 0, 9]] {
+        assert_eq!(recover(&sample(), 0xA6, 25, &bad), given(0xA5, 27));
+    }
+    // None bad: as reading has it.
+    assert_eq!(recover(&sample(), 0xA5, 27, &[]), given(0xA5, 27));
+    assert_eq!(recover(&sample(), 0xA6, 25, &[]), given(0xA6, 29));
+    // A bad place need not be wrong.
+    assert_eq!(recover(&sample(), 0xA5, 27, &[3, 7, 12]), given(0xA5, 27));
+
+    let data = 0x8877_6655_4433_2211;
+    let check = write(&full(8), data).check;
+    assert_eq!(recover(&full(8), data ^ 1 << 63 ^ 1, check ^ 0x80, &[71, 63, 0]), given(data, check));
+}
+
+#[test]
+fn refused_bad_places() {
+    let refused = |number| Recovered { number, ..Recovered::default() };
+    for bad in [&[0, 1, 2, 3][..], &[0, 0], &[0, 1, 0], &[13], &[0, usize::MAX], &[1 << 32, 1]] {
+        assert_eq!(recover(&sample(), 0xA5, 27, bad), refused(22));
+        assert_eq!(recover(&sample(), 0xA5, 32, bad), refused(7));
+        assert_eq!(recover(&repeated(), 0xA5, 32, bad), Recovered { number: 6, told: 5, ..Recovered::default() });
+    }
+    assert_eq!(recover(&sample(), 0x100, 27, &[0]), refused(7));
+}
+
+#[test]
+fn finding_bad_places() {
+    let found = |data, check| BadPlaces { number: 0, told: 0, data, check };
+    assert_eq!(find_bad(&sample(), (0xA5, 27), (0x5A, 4)), found(0, 0));
+    assert_eq!(find_bad(&sample(), (0xA5, 27), (0x5B, 5)), found(1, 1));
+    assert_eq!(find_bad(&sample(), (0, 0), (0, 0)), found(0xFF, 31));
+    assert_eq!(find_bad(&full(8), (1, 2), (1, 2)), found(u64::MAX, 0xFF));
+    for (first, second) in [((0x100, 0), (0, 0)), ((0, 0), (0x100, 0)), ((0, 32), (0, 0)), ((0, 0), (0, 32))] {
+        assert_eq!(find_bad(&sample(), first, second), BadPlaces { number: 7, ..BadPlaces::default() });
+    }
+    assert_eq!(find_bad(&repeated(), (0, 32), (0, 0)), BadPlaces { number: 6, told: 5, ..BadPlaces::default() });
+}

@@ -52,6 +52,8 @@ fn all() -> Vec<Refusal> {
         put_back(&mut image, &three_entries(), 3).unwrap_err(),
         Station { hours: 6.0, devices: 4, words: 8, mended: 9 }.sheet(Limit::Open).unwrap_err(),
         with_leftover(9).judge().unwrap_err(),
+        sample().recover(word, &[0, 13]).unwrap_err(),
+        sample().recover(word, &[0, 2]).unwrap_err(),
     ]
 }
 
@@ -78,14 +80,16 @@ fn every_refusal_has_its_case() {
         Refusal::Mismatch { count: 2 },
         Refusal::Sheet,
         Refusal::Leftover { place: 9 },
+        Refusal::BadPlaces,
+        Refusal::NoCodeWord,
     ];
     assert_eq!(all(), expected);
 }
 
 #[test]
 fn every_refusal_has_its_number_and_tells_what_the_table_says() {
-    let told = [0, 0, 3, 3, 3, 3, 0, 0, 0, 5, 0, 0, 2, 0, 0, 0, 0, 0, 0, 9];
-    let numbers = (1..=19).chain([21]);
+    let told = [0, 0, 3, 3, 3, 3, 0, 0, 0, 5, 0, 0, 2, 0, 0, 0, 0, 0, 0, 9, 0, 0];
+    let numbers = (1..=19).chain([21, 22, 23]);
     for ((refusal, number), told) in all().into_iter().zip(numbers).zip(told) {
         assert_eq!((refusal.number(), refusal.told()), (number, told));
         assert!(refusal.to_string().starts_with(&format!("refused {}: ", number)));
@@ -104,6 +108,8 @@ fn a_code_is_judged_by_every_question() {
     assert_eq!(code.explain(word, 3), Err(refusal));
     assert_eq!(code.explain_into(word, 3, &mut []), Err(refusal));
     assert_eq!(code.card_check(9), Err(refusal));
+    assert_eq!(code.recover(word, &[99; 4]), Err(refusal));
+    assert_eq!(code.find_bad(word, word), Err(refusal));
     assert_eq!(code.pass(&mut [0], 0..9, &mut [], 1, 0), Err(refusal));
     assert_eq!(Code::new(&code.columns[..8], 5), Err(refusal));
 }

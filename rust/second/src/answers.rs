@@ -108,4 +108,22 @@ impl From<Refusal> for Judged {
     }
 }
 
-refused!(Balanced Written Reading Explained CardsChecked Passed PutBack);
+/// The code word, where some places are bad.
+#[derive(Clone, Copy, PartialEq, Eq, Debug, Default)]
+pub struct Recovered {
+    pub number: usize,
+    pub told: usize,
+    pub data: u64,
+    pub check: u16,
+}
+
+/// Bad places, as ones.
+#[derive(Clone, Copy, PartialEq, Eq, Debug, Default)]
+pub struct Found {
+    pub number: usize,
+    pub told: usize,
+    pub data: u64,
+    pub check: u16,
+}
+
+refused!(Balanced Written Reading Explained CardsChecked Passed PutBack Recovered Found);

@@ -1,7 +1,9 @@
 //! The comparison: the same cases to every desk, every number and every byte of the answers.
 
-use crate::answers::{Explained, Judged, Passed, PutBack, Reading, Written};
-use crate::cases::{asked_shapes, edges, edges_of_bits, BackCase, Cases, ImageCase, ListCase, TurnsCase, HUGE};
+use crate::answers::{Explained, Judged, Passed, PutBack, Reading, Recovered, Written};
+use crate::cases::{
+    asked_shapes, edges, edges_of_bits, BackCase, BadCase, Cases, ImageCase, ListCase, TurnsCase, HUGE,
+};
 use crate::desk::{Desk, Second};
 use crate::make::Made;
 use crate::orders::{both_passed, in_every_order, promised_orders, promised_overlap};
@@ -35,6 +37,12 @@ pub struct Amounts {
     pub byte_errors: usize,
     /// Words of ten bytes from the seed, and as many data words to write; every edge is asked besides.
     pub byte_words: usize,
+    /// Words for every set of up to three bad places of every code with at most 20 places.
+    pub small_bad: usize,
+    /// Words with bad places of every kind.
+    pub bad: usize,
+    /// Pairs of reads for the finder.
+    pub finds: usize,
     pub inputs: usize,
 }
 
@@ -55,6 +63,9 @@ impl Amounts {
         sheets: 100_000,
         byte_errors: 1_000,
         byte_words: 100_000,
+        small_bad: 4,
+        bad: 50_000,
+        finds: 50_000,
         inputs: 200,
     };
 
@@ -74,6 +85,9 @@ impl Amounts {
         sheets: 0,
         byte_errors: 0,
         byte_words: 0,
+        small_bad: 0,
+        bad: 0,
+        finds: 0,
         inputs: 0,
     };
 }
@@ -182,6 +196,9 @@ pub fn compare(desks: &[&dyn Desk], amounts: &Amounts) -> Result<Vec<Line>, Box<
     let byte_data = edges_of_bits().chain(cases(amounts, 9, amounts.byte_words, Cases::byte_data));
     let byte_errors = cases(amounts, 10, amounts.byte_errors, Cases::byte_errors).flatten();
     let byte_words = edges_of_bits().chain(cases(amounts, 11, amounts.byte_words, Cases::byte_word));
+    let small_bad = cases(amounts, 16, amounts.small_bad, Cases::small_bad).flatten();
+    let bad = cases(amounts, 17, amounts.bad, Cases::bad);
+    let finds = cases(amounts, 18, amounts.finds, Cases::find);
     let inputs = cases(amounts, 6, amounts.inputs, Cases::program_input);
     Ok(vec![
         ask("check bits", desks, numbers_of_bits, |d, &k| d.wanted(k), |a| a.number)?,
@@ -202,8 +219,16 @@ pub fn compare(desks: &[&dyn Desk], amounts: &Amounts) -> Result<Vec<Line>, Box<
         ask("byte write", desks, byte_data, |d, &data| d.byte_write(data), |a| a.number)?,
         ask("byte errors", desks, byte_errors, |d, &word| d.byte_read(word), |a| a.number)?,
         ask("byte read", desks, byte_words, |d, &word| d.byte_read(word), |a| a.number)?,
+        ask("small bad", desks, small_bad, recovered, |a| a.number)?,
+        ask("bad places", desks, bad, recovered, |a| a.number)?,
+        ask("find bad", desks, finds, |d, f| d.find_bad(&f.code, f.first, f.second), |a| a.number)?,
         ask("mend", desks, inputs, |d, i| d.mend(i), |text| if text == "refused 12\n" { 12 } else { 0 })?,
     ])
+}
+
+/// The code word, where places are bad.
+fn recovered(desk: &dyn Desk, case: &BadCase) -> Recovered {
+    desk.recover(&case.word.code, case.word.data, case.word.check, &case.bad)
 }
 
 /// Bytes on either side of a lent buffer, which no desk may touch.

@@ -1,6 +1,7 @@
 //! A desk is whatever answers all questions: the second program here, the linked desk in a comparison.
 
-use crate::answers::{Balanced, CardsChecked, Explained, Judged, Passed, PutBack, Reading, Wanted, Written};
+use crate::answers::{Balanced, CardsChecked, Explained, Found, Judged, Passed, PutBack, Reading, Recovered};
+use crate::answers::{Wanted, Written};
 use crate::bytes::{ByteRead, ByteWritten};
 use crate::code::Code;
 use crate::make::Made;
@@ -25,6 +26,8 @@ pub trait Desk {
     fn make(&self, k: usize, r: usize) -> Made;
     fn byte_write(&self, data: u64) -> ByteWritten;
     fn byte_read(&self, word: u64) -> ByteRead;
+    fn recover(&self, code: &Code, data: u64, check: u16, bad: &[usize]) -> Recovered;
+    fn find_bad(&self, code: &Code, first: (u64, u16), second: (u64, u16)) -> Found;
     fn mend(&self, input: &[u8]) -> String;
 }
 
@@ -87,6 +90,14 @@ impl Desk for Second {
 
     fn byte_read(&self, word: u64) -> ByteRead {
         crate::byte_read(word)
+    }
+
+    fn recover(&self, code: &Code, data: u64, check: u16, bad: &[usize]) -> Recovered {
+        crate::recover(code, data, check, bad)
+    }
+
+    fn find_bad(&self, code: &Code, first: (u64, u16), second: (u64, u16)) -> Found {
+        crate::find_bad(code, first, second)
     }
 
     fn mend(&self, input: &[u8]) -> String {

@@ -13,6 +13,7 @@
 
 mod answers;
 mod back;
+mod bad;
 mod bytes;
 mod cards;
 pub mod cases;
@@ -29,8 +30,10 @@ mod sheet;
 mod word;
 mod worked;
 
-pub use answers::{Balanced, CardsChecked, Explained, Judged, Passed, PutBack, Reading, Refusal, Wanted, Written};
+pub use answers::{Balanced, CardsChecked, Explained, Found, Judged, Passed, PutBack, Reading, Recovered, Refusal};
+pub use answers::{Wanted, Written};
 pub use back::put_back;
+pub use bad::{find_bad, recover};
 pub use bytes::{byte_read, byte_write, single_errors, spoilt, ByteRead, ByteWritten};
 pub use cards::card_check;
 pub use cases::Cases;

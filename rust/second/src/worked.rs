@@ -137,6 +137,15 @@ impl Worked {
                 let a = desk.put_back(&mut self.image, journal, number(used));
                 said(&[a.number, a.told, a.count])
             }
+            ["recover", d, c, ref places @ ..] => {
+                let bad: Vec<usize> = places.iter().map(|place| number(place)).collect();
+                let a = desk.recover(code, data(d), number(c), &bad);
+                said(&[a.number, a.told]) + &hex(&[a.data], 1) + &said(&[a.check])
+            }
+            ["find", d, c, other, others] => {
+                let a = desk.find_bad(code, (data(d), number(c)), (data(other), number(others)));
+                said(&[a.number, a.told]) + &hex(&[a.data], 1) + &said(&[a.check])
+            }
             ["left"] => hex(&self.image, 2),
             ["noted"] => hex(changed(&self.journal), 2),
             _ => panic!("{:?} is no question", question),

@@ -137,6 +137,23 @@ enum Fault {
     BitThirtyPasses,
     StrayDataIsCut,
     ByteOnRefusal,
+    // Places known to be bad, and the finder.
+    FlipBesideTwo,
+    NoFlipBesideOne,
+    BadPlacesStay,
+    ProperIsRefused,
+    RepeatPasses,
+    PlaceAtNPasses,
+    FourthIsIgnored,
+    BadBeforeStray,
+    NoneIsBadPlaces,
+    WordOnRefusal,
+    NarrowPlaces,
+    ThirdIsIgnored,
+    DifferingIsFound,
+    FoundAboveN,
+    SecondStrayPasses,
+    ChecksAreNotFound,
     // The program.
     SyndromeIsNotPrinted,
     NoLastLineEnd,
@@ -590,6 +607,49 @@ impl Desk for Sloppy {
         }
     }
 
+    fn recover(&self, code: &Code, data: u64, check: u16, bad: &[usize]) -> Recovered {
+        let answer = recover(code, data, check, bad);
+        let with = |bad: Vec<usize>| recover(code, data, check, &bad);
+        let n = code.k.saturating_add(code.r);
+        let as_read = answer.data == data && answer.check == check;
+        let word = |data: u64, check: u16| u128::from(data) | u128::from(check) << code.k;
+        let beside = |a: &Recovered| {
+            let bad = bad.iter().fold(0, |places, &place| places | 1u128 << place);
+            (word(a.data, a.check) ^ word(data, check)) & !bad != 0
+        };
+        match (self.0, answer.number) {
+            (FlipBesideTwo, 23) if bad.len() == 2 => with(bad[..1].to_vec()),
+            (NoFlipBesideOne, 0) if bad.len() == 1 && beside(&answer) => Refusal::plain(23).into(),
+            (BadPlacesStay, 0 | 23) => with(vec![]),
+            (ProperIsRefused, 0) if as_read => Refusal::plain(23).into(),
+            (RepeatPasses, 22) => {
+                let mut once = bad.to_vec();
+                once.sort_unstable();
+                once.dedup();
+                with(once)
+            }
+            (PlaceAtNPasses, 22) => with(bad.iter().copied().filter(|&place| place != n).collect()),
+            (FourthIsIgnored, 22) if bad.len() == 4 => with(bad[..3].to_vec()),
+            (BadBeforeStray, 7) if bad.len() > 1 && bad[0] == bad[1] => Recovered { number: 22, ..answer },
+            (NoneIsBadPlaces, 23) => Recovered { number: 22, ..answer },
+            (WordOnRefusal, 23) => Recovered { data, check, ..answer },
+            (NarrowPlaces, 22) => with(bad.iter().map(|&place| place as u32 as usize).collect()),
+            (ThirdIsIgnored, 0 | 23) if bad.len() == 3 => with(bad[..2].to_vec()),
+            _ => answer,
+        }
+    }
+
+    fn find_bad(&self, code: &Code, first: (u64, u16), second: (u64, u16)) -> Found {
+        let answer = find_bad(code, first, second);
+        match (self.0, answer.number) {
+            (DifferingIsFound, 0) => Found { data: first.0 ^ second.0, check: first.1 ^ second.1, ..answer },
+            (FoundAboveN, 0) => Found { data: !(first.0 ^ second.0), check: !(first.1 ^ second.1), ..answer },
+            (SecondStrayPasses, 7) => find_bad(code, first, first),
+            (ChecksAreNotFound, 0) => Found { check: 0, ..answer },
+            _ => answer,
+        }
+    }
+
     fn mend(&self, input: &[u8]) -> String {
         let text = mend(input);
         match self.0 {
@@ -798,6 +858,31 @@ fn every_fault_of_a_word_of_ten_bytes_is_noticed() {
     noticed(&[BitThirtyPasses, ByteOnRefusal], "byte read", NO_CASES);
 }
 
+/// The faults of bad places and of the finder.
+const BAD: [Fault; 12] = [
+    FlipBesideTwo,
+    NoFlipBesideOne,
+    BadPlacesStay,
+    ProperIsRefused,
+    RepeatPasses,
+    PlaceAtNPasses,
+    FourthIsIgnored,
+    BadBeforeStray,
+    NoneIsBadPlaces,
+    WordOnRefusal,
+    NarrowPlaces,
+    ThirdIsIgnored,
+];
+const FOUND: [Fault; 4] = [DifferingIsFound, FoundAboveN, SecondStrayPasses, ChecksAreNotFound];
+
+#[test]
+fn every_fault_of_a_bad_place_is_noticed() {
+    noticed(&BAD, "bad places", Amounts { bad: 4_000, ..NO_CASES });
+    noticed(&FOUND, "find bad", Amounts { finds: 500, ..NO_CASES });
+    let small = [FlipBesideTwo, NoFlipBesideOne, BadPlacesStay, ProperIsRefused, NoneIsBadPlaces, WordOnRefusal];
+    noticed(&small, "small bad", Amounts { small_bad: 1, ..NO_CASES });
+}
+
 #[test]
 fn the_worked_cases_notice_every_easy_way_to_go_wrong_and_every_byte() {
     let ways = [EvenIsMended, OddIsMended, ChecksAreNotCompared, CheckBitsStayUnmended, PairsComeTwice];
@@ -805,7 +890,7 @@ fn the_worked_cases_notice_every_easy_way_to_go_wrong_and_every_byte() {
     let amended = [CardsRunStraightOn, DataCardIsJoined, CheckCardsAreLeftOut, CheckCardsFromZero];
     let made = [FiveBeforeThree, LargerNumberFirst, ColumnLeftOut, LeftoverIsMade, RoomForOneLess, RoomForOneMore];
     let ways = ways.into_iter().chain(bytes).chain(amended).chain(made).chain(STAMPS).chain(TOLD).chain(ENTERED);
-    for fault in ways.chain(BACK).chain(DAMAGED_BACK) {
+    for fault in ways.chain(BACK).chain(DAMAGED_BACK).chain(BAD).chain(FOUND) {
         assert!(!worked(&Sloppy(fault)).is_empty(), "{:?}", fault);
     }
 }

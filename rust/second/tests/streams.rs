@@ -19,6 +19,9 @@ const SMALL: Amounts = Amounts {
     sheets: 4_000,
     byte_errors: 2,
     byte_words: 4_000,
+    small_bad: 1,
+    bad: 10_000,
+    finds: 4_000,
     inputs: 40,
 };
 
@@ -61,6 +64,9 @@ fn every_number_of_every_question_is_met() {
         ("byte write", met(&[0, 7])),
         ("byte errors", met(&[0])),
         ("byte read", met(&[0, 7])),
+        ("small bad", met(&[0, 23])),
+        ("bad places", met(&[0, 1, 2, 3, 4, 5, 6, 7, 21, 22, 23])),
+        ("find bad", met(&[0, 1, 2, 3, 4, 5, 6, 7, 21])),
         ("mend", met(&[0, 12])),
     ];
     let lines = compare(&[&Second, &Second], &SMALL).expect("the second program agrees with itself");

@@ -3,6 +3,7 @@
 //! Each stream of cases is its own [`Cases`], so that asking more of one question moves no case of another.
 
 mod backs;
+mod bad;
 mod codes;
 mod images;
 mod orders;
@@ -16,6 +17,7 @@ use crate::word::Accepted;
 use std::rc::Rc;
 
 pub use backs::BackCase;
+pub use bad::{sets_of_places, BadCase, FindCase};
 pub use codes::asked_shapes;
 pub use images::{ImageCase, TurnsCase};
 pub use orders::{OrdersCase, OverlapCase};

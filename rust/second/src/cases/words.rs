@@ -28,8 +28,17 @@ pub struct CardCase {
 }
 
 /// The lowest bits set, as many as `count`.
-fn lowest(count: usize) -> u64 {
+pub fn lowest(count: usize) -> u64 {
     (0..count.min(64)).fold(0, |bits, bit| bits | 1 << bit)
+}
+
+/// Flips one place of a word.
+pub fn flip_place(word: &mut WordCase, place: usize) {
+    if place < word.code.k {
+        word.data ^= 1 << place;
+    } else {
+        word.check ^= 1 << (place - word.code.k);
+    }
 }
 
 impl Cases {
@@ -41,19 +50,10 @@ impl Cases {
 
     /// A word as read under the given code.
     pub fn word_under(&mut self, code: &Code) -> WordCase {
-        let accepted = match self.laid_out(code) {
-            Some(accepted) => accepted,
-            None => return WordCase { code: *code, data: self.random.draw(), check: self.random.draw() as u16 },
-        };
-        let data = match self.random.below(10) {
-            0 => 0,
-            1 => u64::MAX,
-            2 => 1 << self.random.below(64),
-            _ => self.random.draw(),
-        };
-        let data = data & lowest(code.k);
-        let check = check_bits(&accepted, data).expect("no bit is stray");
-        let mut word = WordCase { code: *code, data, check };
+        if self.laid_out(code).is_none() {
+            return WordCase { code: *code, data: self.random.draw(), check: self.random.draw() as u16 };
+        }
+        let mut word = self.clean_word(code);
         match self.random.below(20) {
             0..=2 => {}
             3..=6 => self.flip(&mut word, 1),
@@ -68,6 +68,20 @@ impl Cases {
         word
     }
 
+    /// A word that is written, under a sound code.
+    pub fn clean_word(&mut self, code: &Code) -> WordCase {
+        let accepted = self.laid_out(code).expect("a sound code");
+        let data = match self.random.below(10) {
+            0 => 0,
+            1 => u64::MAX,
+            2 => 1 << self.random.below(64),
+            _ => self.random.draw(),
+        };
+        let data = data & lowest(code.k);
+        let check = check_bits(&accepted, data).expect("no bit is stray");
+        WordCase { code: *code, data, check }
+    }
+
     /// Flips `count` different places; a pair now and then at the first two, where paired columns begin.
     fn flip(&mut self, word: &mut WordCase, count: usize) {
         let n = word.code.k + word.code.r;
@@ -76,11 +90,7 @@ impl Cases {
             self.random.shuffle(&mut places, count);
         }
         for &place in &places[..count] {
-            if place < word.code.k {
-                word.data ^= 1 << place;
-            } else {
-                word.check ^= 1 << (place - word.code.k);
-            }
+            flip_place(word, place);
         }
     }
 

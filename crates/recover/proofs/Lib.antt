@@ -1,0 +1,3 @@
+pub mod BySyndrome
+pub mod Answers
+pub mod Plain

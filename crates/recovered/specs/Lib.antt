@@ -1,0 +1,4 @@
+pub mod Outside
+pub mod Within
+pub mod Stuck
+pub mod Named
