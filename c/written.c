@@ -29,6 +29,9 @@ void desk_sheet_open(void *answer, double hours, size_t devices, size_t words, s
 void desk_make(void *answer, size_t k, size_t r);
 void desk_byte_write(void *answer, uint64_t data);
 void desk_byte_read(void *answer, uint64_t word);
+void desk_recover(void *answer, Code code, uint64_t data, uint16_t check, const size_t *bad, size_t count);
+void desk_find_bad(void *answer, Code code, uint64_t first_data, uint16_t first_check, uint64_t second_data,
+                   uint16_t second_check);
 
 static const Code sample = {.columns = {28, 26, 25, 22, 21, 19, 14, 13}, .k = 8, .r = 5};
 
@@ -62,6 +65,14 @@ static void make_to(void *answer) { desk_make(answer, 8, 5); }
 static void refused_make_to(void *answer) { desk_make(answer, 12, 5); }
 static void byte_write_to(void *answer) { desk_byte_write(answer, 8); }
 static void byte_read_to(void *answer) { desk_byte_read(answer, 573833224); }
+
+static void recover_to(void *answer) {
+    const size_t bad[] = {9, 1, 0};
+    desk_recover(answer, sample, 0xA6, 25, bad, 3);
+}
+
+static void refused_recover_to(void *answer) { desk_recover(answer, sample, 0xA6, 27, NULL, 0); }
+static void find_bad_to(void *answer) { desk_find_bad(answer, sample, 0xA5, 27, 0x5B, 5); }
 
 enum { GUARD = 64, LARGEST = 152 };
 
@@ -104,5 +115,8 @@ int main(void) {
     expect("desk_make writes all of them where it refuses too", writes_only(refused_make_to, 0, 152, 152));
     expect("desk_byte_write writes all 24 bytes of its answer, and no other", writes_only(byte_write_to, 0, 24, 24));
     expect("desk_byte_read writes all 40 bytes of its answer, and no other", writes_only(byte_read_to, 0, 40, 40));
+    expect("desk_recover writes 26 bytes of its 32, and no other", writes_only(recover_to, 0, 26, 32));
+    expect("desk_recover writes them where it refuses too", writes_only(refused_recover_to, 0, 26, 32));
+    expect("desk_find_bad writes 26 bytes of its 32, and no other", writes_only(find_bad_to, 0, 26, 32));
     return finish();
 }

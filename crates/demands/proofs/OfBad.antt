@@ -2,46 +2,41 @@
 use mathlib.Core.Path.{_≡_, refl, sym, ap, ap₂, subst, _∙_}
 use mathlib.Core.Logic.{_≢_, _⊎_, inl, inr, ⊎-elim, _↔_}
 use mathlib.Core.Bool.{Bool, true, false, cond, true≢false}
-use mathlib.Core.List.{List, [], _∷_, List·Memᴰ}
-use Prim.Native.Nat.{ℕ, zero, suc, _+_, _-_, _^_, _≤_, _<_}
-use native.Mathlib.Nat.{add-zero}
+use mathlib.Core.List.{List, [], List·Memᴰ}
+use Prim.Native.Nat.{ℕ, zero, suc, _-_, _^_, _≤_, _<_}
 use native.Mathlib.Omega.{arith}
 use borrow.Author.Tests.{lt-ltb}
 use lib.Bits.{bitXor}
 use lib.Dec.{ltb}
 use lib.ListN.{length, getD}
-use Rattle.parity.specs.Odd.{oddIn, allRows}
-use Rattle.parity.proofs.Ones.{below-or-not}
+use Rattle.parity.specs.Odd.{allRows}
 use Rattle.parity.proofs.Xor.{eq-of-xor-zero}
-use Rattle.columns.specs.Mix.{column, mix}
+use Rattle.columns.specs.Mix.{column}
 use Rattle.columns.specs.Bits.{bitAt}
 use Rattle.columns.proofs.Errors.{column-nonzero, pair-nonzero, pair-no-column}
 use Rattle.code.specs.declared.Code.{Code}
 use Rattle.code.specs.declared.Opened.{Opened}
 use Rattle.code.specs.Rule.{matrixOf}
-use Rattle.code.specs.Opened.{openedOf, columnsOf, only}
+use Rattle.code.specs.Opened.{openedOf, only}
 use Rattle.code.proofs.Laying.{laid-columns}
 use Rattle.word.specs.declared.Word.{Word}
 use Rattle.verdict.specs.declared.Verdict.{Verdict}
 use Rattle.verdict.specs.declared.Verdict.the-variants.{Clean, Data, Check, Even, Odd, Stray}
-use Rattle.word.specs.Word.{wordOf, dataOf, checkOf, asNumber, inParts, strayIn}
+use Rattle.word.specs.Word.{wordOf, dataOf, checkOf, inParts, strayIn}
 use Rattle.verdict.specs.Verdicts.{findingOf}
 use Rattle.mending.proofs.Parts.{data-of-word, check-of-word, word-of-parts, number-of-parts, parts-unstrayed}
 use Rattle.mending.proofs.Reading.{data-inside, mendedNumber}
-use Rattle.mending.proofs.Strays.{stray-of}
 use Rattle.explained.proofs.Explanations.{clean-exactly}
 use Rattle.reach.specs.declared.Reached.{Reached}
 use Rattle.reach.specs.declared.Reached.the-variants.{Nothing, Proper}
 use Rattle.reach.specs.Places.{stands, wrongPlaces}
 use Rattle.reach.proofs.Places.{right-places}
-use Rattle.recover.specs.declared.Recovery.{Recovery}
 use Rattle.recover.specs.Recover as recovering
 use Rattle.recover.specs.Recover.{flipsBeside, properWords, firstOf, recoverIn, recoverOf}
 use Rattle.recover.proofs.Answers.{in-stray, in-wrong, in-reach, answer-refused}
-use Rattle.finder.specs.declared.Found.{Found}
 use Rattle.finder.specs.Finder.{agreeing, refusedFound, findIn, findAs, findOf}
 use Rattle.finder.proofs.Answers.{find-first, find-second, find-done}
-use Rattle.recovered.specs.Named.{Repeated, WrongPlaces}
+use Rattle.recovered.specs.Named.{WrongPlaces}
 use Rattle.recovered.specs.Outside.{differing}
 use Rattle.recovered.specs.Within.{Within}
 use Rattle.recovered.proofs.Named.{stands-in, in-stands, at-stands, wrong-exactly, right-exactly}
@@ -53,10 +48,9 @@ use Rattle.desk.specs.declared.Recovered.{Recovered}
 use Rattle.desk.specs.declared.BadPlaces.{BadPlaces}
 use Rattle.desk.specs.Answers.{judgementOf, wordWith, recoveredBy, recoveredOf, badPlacesBy, badPlacesOf}
 use Rattle.demands.specs.Definitions.{Accepted, Unstrayed, placesOf, read, onlyNumber}
-use Rattle.demands.specs.Definitions as words
-use Rattle.demands.specs.Bad.{recover, givenBack, refusedRecovered, Recoverable, findBad, foundIn, refusedBadPlaces}
+use Rattle.demands.specs.Bad.{recover, givenBack, refusedRecovered, Recoverable, findBad, foundIn}
 use Rattle.demands.specs.Demands as demands
-use Rattle.demands.proofs.Codes.{standing-refused, opened-is, limits-of, places-length, sound-of}
+use Rattle.demands.proofs.Codes.{standing-refused, opened-is, places-length, sound-of}
 use Rattle.demands.proofs.Words.{verdictAt, answered, answered-as, parts-are, low-is, clean-zero}
 use Rattle.demands.proofs.OfWords.{stray-is, strayed, whole-fits}
 
@@ -151,7 +145,8 @@ module _ (code : Code) (a : Accepted code) where
           ∙ word-of-parts (code .k) v
 
       given-found : (u : ℕ) → Recoverable code w bad u → recover code w bad ≡ givenBack code u
-      given-found u x = recover-reached ∙ ap answerTo (within-found rows (sound-of code a) w bad inside right-is u (within u x)) ∙ answer-given u
+      given-found u x =
+          recover-reached ∙ ap answerTo (within-found rows (sound-of code a) w bad inside right-is u (within u x)) ∙ answer-given u
 
       found-given : (x : Reached) → reached ≡ x → (u : ℕ) → recover code w bad ≡ givenBack code u → Recoverable code w bad u
       found-given Nothing e u h =
@@ -162,8 +157,8 @@ module _ (code : Code) (a : Accepted code) where
           let same = given-tells (i .0) u (sym (recover-reached ∙ ap answerTo (e ∙ ap Proper (i .2)) ∙ answer-given (i .0)) ∙ h) in
           subst (Recoverable code w bad) same (recoverable (i .0) (i .1))
 
-      none-given : (x : Reached) → reached ≡ x → recover code w bad ≡ refusedRecovered (onlyNumber 23) → (u : ℕ) → ¬ (Recoverable code w bad u)
-      none-given x e h u y =
+      none-given : recover code w bad ≡ refusedRecovered (onlyNumber 23) → (u : ℕ) → ¬ (Recoverable code w bad u)
+      none-given h u y =
           let z : _≡_ {A = ℕ} 23 0 = ap (λ (v : Recovered). v .number) (sym h ∙ given-found u y) in
           omega arith
 
@@ -211,7 +206,7 @@ recovering-refuses code low high bad =
 pub recovered-exactly : demands.RecoveredExactly
 recovered-exactly code a w fits bad right = (
   λ u. (found-given code a w fits bad right _ refl u, given-found code a w fits bad right u),
-  (none-given code a w fits bad right _ refl, given-none code a w fits bad right),
+  (none-given code a w fits bad right, given-none code a w fits bad right),
 )
 
 pub recovered-only : demands.RecoveredOnly
@@ -258,7 +253,8 @@ module _ (code : Code) (a : Accepted code) (w : ℕ) (fits : Unstrayed code w) w
   by-verdict : (v : Verdict) → verdictAt code a w ≡ v → recover code w [] ≡ answerTo (readBack v (code .k) w)
   by-verdict v e =
       recover-reached code a w fits [] (none-right (placesOf code))
-      ∙ ap answerTo (none-bad (allRows (code .r)) (sound-of code a) w (inside code a w fits) ∙ ap (λ (x : Verdict). readBack x (code .k) w) e)
+      ∙ ap answerTo
+      (none-bad (allRows (code .r)) (sound-of code a) w (inside code a w fits) ∙ ap (λ (x : Verdict). readBack x (code .k) w) e)
 
   mended-is : (v : Verdict) → verdictAt code a w ≡ v → answerTo (Proper (inParts (code .k) (mendedNumber v w))) ≡ asRead
   mended-is v e =

@@ -64,7 +64,7 @@ use Rattle.demands.specs.PutBack.{answerBack, imageBack, backWith, fromL
 use Rattle.recovered.specs.Named.{Repeated, WrongPlaces}
 use Rattle.recovered.specs.Stuck.{ReadBack, complement}
 use Rattle.desk.specs.Answers.{recoveredOf, badPlacesOf}
-use Rattle.demands.specs.Bad.{recover, givenBack, refusedRecovered, Recoverable, findBad, foundIn, refusedBadPlaces}
+use Rattle.demands.specs.Bad.{recover, givenBack, refusedRecovered, Recoverable, foundIn, refusedBadPlaces}
 
 -- ---- records and entries
 

@@ -1,5 +1,5 @@
 -- Words of ones, and words exclusive-ored, in their parts. Assumes nothing.
-use mathlib.Core.Path.{_≡_, refl, sym, ap, ap₂, _∙_}
+use mathlib.Core.Path.{_≡_, ap, ap₂, _∙_}
 use mathlib.Core.Bool.{false}
 use Prim.Native.Nat.{ℕ, _+_, _-_, _*_, _/_, _%_, _^_, _≤_, _<_}
 use native.Mathlib.Nat.{mod-eq-of-lt, div-eq-of-lt}
@@ -37,7 +37,8 @@ module _ (n k : ℕ) (h : k ≤ n) where
       let b = ap (λ (x : ℕ). x / 2 ^ 64) every-low ∙ div-eq-of-lt fits in
       λ i. record { low = a i; high = b i; check = every-high i }
 
-  pub every-wide : 64 ≤ k → inParts k (everyPlace n) ≡ record { low = everyPlace 64; high = everyPlace (k - 64); check = everyPlace (n - k) }
+  pub every-wide : 64 ≤ k
+      → inParts k (everyPlace n) ≡ record { low = everyPlace 64; high = everyPlace (k - 64); check = everyPlace (n - k) }
   every-wide l =
       let a = ap (λ (x : ℕ). x % 2 ^ 64) every-low ∙ halves-low in
       let b = ap (λ (x : ℕ). x / 2 ^ 64) every-low ∙ halves-high in

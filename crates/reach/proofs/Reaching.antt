@@ -1,5 +1,5 @@
 -- One bad place after the other: what is asked of the places behind the first, and a turned place leaves no stray bit. Assumes nothing.
-use mathlib.Core.Path.{_≡_, refl, sym, ap, ap₂, _∙_}
+use mathlib.Core.Path.{_≡_, refl, sym, ap, _∙_}
 use mathlib.Core.Bool.{false}
 use mathlib.Core.Logic.{_≢_}
 use mathlib.Core.List.{List, [], _∷_}
@@ -14,7 +14,6 @@ use Rattle.word.proofs.Halves.{rest-all}
 use Rattle.word.proofs.Strays.{data-fits}
 use Rattle.mending.proofs.Parts.{parts-of-number, parts-unstrayed, flipped-parts}
 use Rattle.mending.proofs.Strays.{number-fits}
-use Rattle.reach.specs.declared.Reached.{Reached}
 use Rattle.reach.specs.Places.{misnamed}
 use Rattle.reach.specs.BySyndrome.{nearBy, orElse, reachBy}
 use Rattle.reach.proofs.Places.{named-first}

@@ -18,7 +18,6 @@ use Rattle.mending.proofs.Strays.{number-fits}
 use Rattle.listing.specs.Sets.{flipAll}
 use Rattle.listing.specs.BySyndrome.{bySyndrome}
 use Rattle.explain.proofs.BySyndrome.{by-syndrome}
-use Rattle.reach.specs.declared.Reached.{Reached}
 use Rattle.reach.specs.declared.Reached.the-variants.{Nothing, Proper}
 use Rattle.reach.specs.Places.{misnamed}
 use Rattle.reach.specs.BySyndrome.{nearBy, orElse, reachBy}

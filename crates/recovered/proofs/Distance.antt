@@ -1,8 +1,9 @@
--- THE DISTANCE IS FOUR: no sum of one, two or three different columns is 0, for any list of columns that differ and are odd. Assumes nothing.
+-- THE DISTANCE IS FOUR: no sum of one, two or three different columns is 0, for any list of columns that differ and are odd.
+-- Assumes nothing.
 use mathlib.Core.Path.{_≡_, refl, sym, ap, ap₂, _∙_}
 use mathlib.Core.Logic.{_≢_}
 use mathlib.Core.List.{List, [], _∷_}
-use Prim.Native.Nat.{ℕ, zero, suc, _+_, _/_, _%_, _^_, _≤_, _<_}
+use Prim.Native.Nat.{ℕ, zero, suc, _/_, _%_, _^_, _≤_, _<_}
 use native.Mathlib.Omega.{arith}
 use lib.Bits.{bitXor, differ, xor-zero-r, xor-lt}
 use lib.Count.{onesIn}

@@ -1,17 +1,16 @@
--- RECOVERED EXACTLY: the word handed back is the proper word within reach, where there is one; there is never a second. Under sound columns,
--- over any family, any k and any r; words are numbers of n places. Assumes nothing.
-use mathlib.Core.Path.{_≡_, refl, sym, ap, ap₂, _∙_}
+-- RECOVERED EXACTLY: the word handed back is the proper word within reach, where there is one; there is never a second. Under sound
+-- columns, over any family, any k and any r; words are numbers of n places. Assumes nothing.
+use mathlib.Core.Path.{_≡_, refl, sym, ap, _∙_}
 use mathlib.Core.Logic.{_↔_}
 use mathlib.Core.Bool.{Bool, true, false, true≢false}
 use mathlib.Core.List.{List, [], _∷_, List·Memᴰ, List·Memᴰ·head, List·Memᴰ·not-nil}
-use Prim.Native.Nat.{ℕ, _+_, _^_, _≤_, _<_}
+use Prim.Native.Nat.{ℕ, _^_, _≤_, _<_}
 use native.Mathlib.Omega.{arith}
 use lib.ListN.{length}
 use Rattle.parity.specs.Odd.{oddIn}
 use Rattle.columns.specs.Sound.{Sound}
 use Rattle.word.specs.declared.Word.{Word}
-use Rattle.word.specs.Word.{asNumber, inParts}
-use Rattle.mending.proofs.Parts.{number-of-parts}
+use Rattle.word.specs.Word.{inParts}
 use Rattle.explained.proofs.Explanations.{clean-exactly}
 use Rattle.reach.specs.declared.Reached.{Reached}
 use Rattle.reach.specs.declared.Reached.the-variants.{Nothing, Proper}

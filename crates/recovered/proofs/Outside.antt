@@ -1,12 +1,12 @@
 -- In how many places words differ, some places aside: after flips, with a bad place settled, and from one word by way of another.
 -- Assumes nothing.
-use mathlib.Core.Path.{_≡_, refl, sym, ap, ap₂, _∙_}
+use mathlib.Core.Path.{_≡_, refl, sym, ap, _∙_}
 use mathlib.Core.Logic.{_≢_, _⊎_, inl, inr, ⊎-elim}
 use mathlib.Core.Bool.{Bool, true, false, cond}
 use mathlib.Core.List.{List, [], _∷_}
 use Prim.Native.Nat.{ℕ, zero, suc, _+_, _≤_, _<_}
 use native.Mathlib.Omega.{arith}
-use borrow.Author.Tests.{eq-eqb, ne-eqb, eqb-true, eqb-false}
+use borrow.Author.Tests.{ne-eqb, eqb-true, eqb-false}
 use lib.Bits.{bitXor, differ}
 use lib.Count.{onesIn}
 use lib.Dec.{eqb}
@@ -51,7 +51,13 @@ sum-listed : (ps : List ℕ) (n j : ℕ) → sumFrom (listed ps) n j ≤ length 
 unfolding stands
 sum-listed [] n j = omega (arith, sum-none n j)
 sum-listed (p ∷ ps) n j =
-    omega (arith, sum-le (listed (p ∷ ps)) (λ q. at p q + listed ps q) n j (λ q h. each q), sum-add (at p) (listed ps) n j, sum-at p n j, sum-listed ps n j)
+    omega (
+      arith,
+      sum-le (listed (p ∷ ps)) (λ q. at p q + listed ps q) n j (λ q h. each q),
+      sum-add (at p) (listed ps) n j,
+      sum-at p n j,
+      sum-listed ps n j,
+    )
   where
     each : (q : ℕ) → listed (p ∷ ps) q ≤ at p q + listed ps q
     each q = go (eqb p q) (stands q ps)
@@ -181,7 +187,8 @@ pub settle : (n p : ℕ) (ps : List ℕ) (u w : ℕ)
     → (differing n ps u w ≤ differing n (p ∷ ps) u w) ⊎ (differing n ps u (flipped w p) ≤ differing n (p ∷ ps) u w)
 settle n p ps u w =
     ⊎-elim
-    (λ (l : differ (bitAt w p) (bitAt u p) < 1). inl (settled n p ps u w w (alike (bitAt w p) (bitAt u p) (bit-lt w p) (bit-lt u p) l) (λ q ne. refl)))
+    (λ (l : differ (bitAt w p) (bitAt u p) < 1).
+    inl (settled n p ps u w w (alike (bitAt w p) (bitAt u p) (bit-lt w p) (bit-lt u p) l) (λ q ne. refl)))
     (λ (l : 1 ≤ differ (bitAt w p) (bitAt u p)).
     inr (settled n p ps u (flipped w p) w (flip-bit w p ∙ other (bitAt w p) (bitAt u p) (bit-lt w p) (bit-lt u p) l) (flip-bit-other w p)))
     (below-or-not (differ (bitAt w p) (bitAt u p)) 1)

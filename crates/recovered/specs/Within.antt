@@ -1,4 +1,5 @@
--- What is to be recovered: a proper word that differs from w outside the bad places in as few places as their count allows. Assumes nothing.
+-- What is to be recovered: a proper word that differs from w outside the bad places in as few places as their count allows.
+-- Assumes nothing.
 use mathlib.Core.Path.{_≡_}
 use mathlib.Core.Bool.{true}
 use mathlib.Core.List.{List}

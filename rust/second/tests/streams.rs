@@ -1,6 +1,6 @@
 //! The streams of cases: fixed by their seed, and wide enough that every line of the document is asked.
 
-use second::cases::{edges, edges_of_bits, BackCase, CardCase, HUGE};
+use second::cases::{edges, edges_of_bits, BackCase, BadCase, CardCase, HUGE};
 use second::*;
 use std::collections::{BTreeMap, BTreeSet, HashSet};
 
@@ -482,4 +482,91 @@ fn words_of_ten_bytes_have_every_verdict_and_byte() {
         assert_eq!(errors.iter().collect::<HashSet<_>>().len(), 1 + 70 + 2_205);
     }
     assert!((0..1_000).any(|_| byte_write(cases.byte_data()).number == 7));
+}
+
+#[test]
+fn every_small_code_is_asked_with_every_set_of_bad_places() {
+    let mut asked: BTreeMap<(usize, usize), BTreeSet<Vec<usize>>> = BTreeMap::new();
+    let mut unsorted = 0;
+    for BadCase { word, mut bad } in Cases::new(1).small_bad() {
+        assert_eq!(judge(&word.code).number, 0);
+        unsorted += usize::from(bad.windows(2).any(|pair| pair[0] > pair[1]));
+        bad.sort_unstable();
+        asked.entry((word.code.k, word.code.r)).or_default().insert(bad);
+    }
+    let shapes = (3..=16).flat_map(|r| (1..=20 - r).map(move |k| (k, r))).filter(|&(k, r)| k <= (1 << (r - 1)) - r);
+    let sets = |n: usize| 1 + n + n * (n - 1) / 2 + n * (n - 1) * (n - 2) / 6;
+    let wanted: BTreeMap<(usize, usize), usize> = shapes.map(|(k, r)| ((k, r), sets(k + r))).collect();
+    assert_eq!(asked.iter().map(|(&shape, sets)| (shape, sets.len())).collect::<BTreeMap<_, _>>(), wanted);
+    assert!(unsorted > 10_000);
+}
+
+#[test]
+fn bad_places_are_named_in_every_way() {
+    let mut met = BTreeMap::new();
+    let mut cases = Cases::new(1);
+    for BadCase { word, bad } in (0..10_000).map(|_| cases.bad()) {
+        if judge(&word.code).number != 0 {
+            continue;
+        }
+        let n = word.code.k + word.code.r;
+        let number = recover(&word.code, word.data, word.check, &bad).number;
+        let different: BTreeSet<usize> = bad.iter().copied().collect();
+        let ways = [
+            ("four or more", bad.len() > 3),
+            ("a repeat alone", bad.len() < 4 && different.len() < bad.len() && bad.iter().all(|&place| place < n)),
+            ("n", bad.len() < 4 && bad.contains(&n)),
+            ("far above n", bad.iter().any(|&place| place > 1 << 31)),
+            ("22 or stray", number == 7 && bad.len() > 3),
+            ("none", bad.is_empty() && number == 0),
+            ("one", bad.len() == 1 && number == 0),
+            ("two", bad.len() == 2 && number == 0),
+            ("three", bad.len() == 3 && number == 0),
+            ("none near", bad.is_empty() && number == 23),
+            ("none near one", bad.len() == 1 && number == 23),
+            ("none near two", bad.len() == 2 && number == 23),
+            ("none near three", bad.len() == 3 && number == 23),
+        ];
+        for (way, is_met) in ways {
+            *met.entry(way).or_insert(0) += usize::from(is_met);
+        }
+    }
+    assert!(met.values().all(|&count| count >= 20), "{:?}", met);
+}
+
+#[test]
+fn what_the_finder_finds_is_recovered() {
+    let mut cases = Cases::new(1);
+    let mut recovered_words = 0;
+    for BadCase { word, bad } in (0..20_000).map(|_| cases.bad()) {
+        let code = word.code;
+        if judge(&code).number != 0 || bad.len() > 3 || bad.iter().any(|&place| place >= code.k + code.r) {
+            continue;
+        }
+        // The bad places are stuck at the digits that the word as read has there.
+        let at = |place: &usize| if *place < code.k { (1 << place, 0) } else { (0, 1 << (place - code.k)) };
+        let stuck = bad.iter().map(at).fold((0u64, 0u16), |a, b| (a.0 | b.0, a.1 | b.1));
+        let back = |(data, check): (u64, u16)| {
+            (data & !stuck.0 | word.data & stuck.0, check & !stuck.1 | word.check & stuck.1)
+        };
+        let ones = (u64::MAX >> (64 - code.k), u16::MAX >> (16 - code.r));
+        let pattern = (word.data & ones.0, word.check & ones.1);
+        let inverse = (!pattern.0 & ones.0, !pattern.1 & ones.1);
+        if pattern != (word.data, word.check) {
+            continue;
+        }
+        assert_eq!(
+            find_bad(&code, back(pattern), back(inverse)),
+            Found { data: stuck.0, check: stuck.1, ..Found::default() }
+        );
+        let written = (pattern.0, write(&code, pattern.0).check);
+        let read = back(written);
+        let mut places = bad;
+        places.sort_unstable();
+        places.dedup();
+        let answer = recover(&code, read.0, read.1, &places);
+        assert_eq!(answer, Recovered { data: written.0, check: written.1, ..Recovered::default() });
+        recovered_words += 1;
+    }
+    assert!(recovered_words > 5_000);
 }

@@ -1,9 +1,8 @@
 -- `finder::every_place` meets its contract: ones in each part. Assumes nothing.
-use mathlib.Core.Path.{_≡_, sym, _∙_}
+use mathlib.Core.Path.{sym, _∙_}
 use Prim.Native.Nat.{_-_}
 use native.Mathlib.Omega.{arith}
 use lib.Pow.{pow-pos, pow-mono}
-use Rattle.word.specs.declared.Word.{Word}
 use Rattle.finder.proofs.Parts.{every-narrow, every-wide}
 use borrow.Author.Needs.{needs}
 use Rattle.finder.proofs.every_place.Statement.{statement}

@@ -8,7 +8,6 @@ use lib.Seq.{length-take-le}
 use Rattle.code.specs.Opened.{columnsOf}
 use Rattle.word.specs.declared.Word.{Word}
 use Rattle.word.specs.Word.{strayIn, inParts}
-use Rattle.finder.specs.declared.Found.{Found}
 use Rattle.finder.specs.Finder.{everyPlace, xorWords, findAs}
 use Rattle.finder.proofs.Parts.{agreeing-parts}
 use Rattle.finder.proofs.Answers.{found, find-first, find-second, find-done}
@@ -60,7 +59,8 @@ returns-2 c =
     let o = s .args .opened in
     c .refused2 .ensures
     ∙ sym (ap (λ z. findAs z o (s .args .first) (s .args .second)) (y .before .enum-told .given .1)
-    ∙ find-first (columnsOf o) (o .k) (s .args .first) (s .args .second) (strays s (s .args .first) _ (y .stray-in .ensures) ∙ c .before .if1 .taken))
+    ∙ find-first (columnsOf o) (o .k) (s .args .first) (s .args .second)
+    (strays s (s .args .first) _ (y .stray-in .ensures) ∙ c .before .if1 .taken))
 
 stray-in-requires-2 : tie.Need-stray-in-requires-2
 stray-in-requires-2 c κs = c .before .before .before .before .pre .parts
@@ -76,7 +76,8 @@ returns-3 c =
     let o = s .args .opened in
     c .refused3 .ensures
     ∙ sym (ap (λ x. findAs x o (s .args .first) (s .args .second)) (y .before .enum-told .given .1)
-    ∙ find-second (columnsOf o) (o .k) (s .args .first) (s .args .second) (strays s (s .args .first) _ (y .stray-in .ensures) ∙ z .before .if1 .left)
+    ∙ find-second (columnsOf o) (o .k) (s .args .first) (s .args .second)
+    (strays s (s .args .first) _ (y .stray-in .ensures) ∙ z .before .if1 .left)
     (strays s (s .args .second) _ (z .stray-in2 .ensures) ∙ c .before .if2 .taken))
 
 xored-requires : tie.Need-xored-requires

@@ -1,11 +1,9 @@
 -- `reach::reach` meets its contract: the first bad place as read, else turned. The measure is the number of bad places. Assumes nothing.
-use mathlib.Core.Path.{_≡_, sym, ap, _∙_, subst}
-use mathlib.Core.Bool.{false}
+use mathlib.Core.Path.{sym, ap, _∙_, subst}
 use Prim.Native.Nat.{ℕ, _-_, _^_, _<_}
 use native.Mathlib.Omega.{arith}
 use lib.ListN.{length, getD}
 use Rattle.word.specs.Word.{strayIn, flippedIn}
-use Rattle.word.proofs.Halves.{rest-all}
 use Rattle.reach.specs.BySyndrome.{orElse, reachBy}
 use Rattle.reach.proofs.Rows.{found-first}
 use Rattle.reach.proofs.Reaching.{behind, behind-less, named-rest, reach-none, reach-first, turned-whole}
@@ -73,9 +71,10 @@ returns-2 t c =
     let y = c .before .before in
     let e = y .before .before .before in
     let a = e .before .before .before .args in
-    let kept = y .reach .ensures in
-    sym (found-first (y .reach .result) (reachBy (a .columns .now) (a .k) (a .flips) (flippedIn (a .k) (getD (a .bad .now) 0 0) (a .word)) (behind (a .bad .now))) (c .before .match .keys2))
-    ∙ ap (λ x. orElse x (reachBy (a .columns .now) (a .k) (a .flips) (flippedIn (a .k) (getD (a .bad .now) 0 0) (a .word)) (behind (a .bad .now)))) kept
+    let turned = flippedIn (a .k) (getD (a .bad .now) 0 0) (a .word) in
+    let later = reachBy (a .columns .now) (a .k) (a .flips) turned (behind (a .bad .now)) in
+    sym (found-first (y .reach .result) later (c .before .match .keys2))
+    ∙ ap (λ x. orElse x later) (y .reach .ensures)
     ∙ sym (reach-first (a .columns .now) (a .k) (a .flips) (a .word) (a .bad .now) (e .if1 .left))
 
 flipped-in-requires : (t : ℕ) → reach-lts.Need-flipped-in-requires (calls t) (reach-at t) reach.Post
@@ -99,18 +98,14 @@ reach-requires-2 : (t : ℕ) → reach-lts.Need-reach-requires-2 (calls t) (reac
 reach-requires-2 t c κs =
     let e = c .before .before .before .before .before .before .before in
     let s = e .before .before .before in
+    let a = s .args in
     let pre = s .pre .1 in
-    let x = named-rest (length (s .args .columns .now)) (s .args .bad .now) (e .if1 .left) (pre .1 .1) in
-    let low : s .args .word .low < 2 ^ 64 = search needs in (
-      subst (λ (j : ℕ). length (behind (s .args .bad .now)) < j) (s .pre .0) (behind-less (s .args .bad .now) (e .if1 .left)),
-      (
-        pre .0,
-        (
-          ap (strayIn (length (s .args .columns .now)) (s .args .k)) (c .before .flipped-in .ensures)
-              ∙ turned-whole (length (s .args .columns .now)) (s .args .k) (getD (s .args .bad .now) 0 0) (s .args .word) low (pre .0 .0) (x .0) (pre .1 .0),
-          x .1,
-        ),
-      ),
+    let n = length (a .columns .now) in
+    let x = named-rest n (a .bad .now) (e .if1 .left) (pre .1 .1) in
+    let low : a .word .low < 2 ^ 64 = search needs in
+    let whole = turned-whole n (a .k) (getD (a .bad .now) 0 0) (a .word) low (pre .0 .0) (x .0) (pre .1 .0) in (
+      subst (λ (j : ℕ). length (behind (a .bad .now)) < j) (s .pre .0) (behind-less (a .bad .now) (e .if1 .left)),
+      (pre .0, (ap (strayIn n (a .k)) (c .before .flipped-in .ensures) ∙ whole, x .1)),
     )
 
 returns-3 : (t : ℕ) → reach-lts.Need-returns-3 (calls t) (reach-at t) reach.Post
@@ -120,9 +115,10 @@ returns-3 t c =
     let e = y .before .before .before in
     let a = e .before .before .before .args in
     let turned = flippedIn (a .k) (getD (a .bad .now) 0 0) (a .word) in
+    let later = reachBy (a .columns .now) (a .k) (a .flips) turned (behind (a .bad .now)) in
     c .reach2 .ensures
     ∙ ap (λ v. reachBy (a .columns .now) (a .k) (a .flips) v (behind (a .bad .now))) (c .before .before .flipped-in .ensures)
-    ∙ ap (λ x. orElse x (reachBy (a .columns .now) (a .k) (a .flips) turned (behind (a .bad .now)))) (sym (o .enum-told .given .1) ∙ y .reach .ensures)
+    ∙ ap (λ x. orElse x later) (sym (o .enum-told .given .1) ∙ y .reach .ensures)
     ∙ sym (reach-first (a .columns .now) (a .k) (a .flips) (a .word) (a .bad .now) (e .if1 .left))
 
 pub +reach-spec : {M : Type 1} → statement M

@@ -1,12 +1,10 @@
 -- `reach::near` meets its contract: the syndrome decides. Assumes nothing.
-use mathlib.Core.Path.{_≡_, sym, ap, _∙_}
-use mathlib.Core.Logic.{_≢_}
+use mathlib.Core.Path.{sym, ap, _∙_}
 use Prim.Native.Nat.{ℕ}
 use native.Mathlib.Omega.{arith}
 use Rattle.columns.specs.Mix.{mix, placeIn}
 use Rattle.word.specs.Word.{asNumber, flippedIn}
 use Rattle.reach.specs.declared.Reached.the-variants.{Proper}
-use Rattle.reach.specs.BySyndrome.{nearBy}
 use Rattle.reach.proofs.Rows.{near-zero, near-none, near-place, near-away}
 use borrow.Author.Needs.{needs}
 use Rattle.reach.proofs.near.Statement.{statement}

@@ -1,7 +1,6 @@
 -- `recover::recover` meets its contract: how the code stands decides, then the tests; the word found by syndromes is the first of the
 -- proper words within reach. Assumes nothing.
-use mathlib.Core.Path.{_≡_, sym, ap, ap₂, _∙_}
-use mathlib.Core.Bool.{Bool, false}
+use mathlib.Core.Path.{_≡_, sym, ap, _∙_}
 use Prim.Native.Nat.{ℕ, _^_, _≤_, _<_}
 use native.Mathlib.Omega.{arith}
 use borrow.Author.Needs.{needs}
@@ -133,7 +132,8 @@ returns-4 c =
     let sound = asked t .pre .1 (t .enum-told .given .1) in
     c .recovered-by .ensures
     ∙ ap recoveredBy (c .before .reach .ensures
-    ∙ by-syndromes-parts (o .rows) sound (flipsBeside (length (a .bad .now))) (omega arith) (a .bad .now) (a .word) (half (asked t)) whole (x .1))
+    ∙ by-syndromes-parts (o .rows) sound (flipsBeside (length (a .bad .now))) (omega arith) (a .bad .now) (a .word) (half (asked t))
+    whole (x .1))
     ∙ sym (answer-accepted o (a .word) (a .bad .now) (t .enum-told .given .1)
     ∙ in-reach (o .rows) (columnsOf o) (o .k) (a .word) (a .bad .now) whole right)
 
