@@ -525,6 +525,225 @@ static void bad_refusals(void) {
     expect("desk_find_bad: refused as the code is", same_places(desk_find_bad(repeated(), 0, 32, 0, 0), 6, 5, 0, 0));
 }
 
+/* ---- the wide edition */
+
+/* The code of 128 data bits and 9 check bits that is made. */
+static DeskWideCode widest(void) {
+    return desk_wide_make(128, 9).code;
+}
+
+/* A record: data in two halves and check bits, low byte first. */
+static void put_wide_record(uint8_t *record, uint64_t low, uint64_t high, uint16_t check) {
+    put_record(record, low, 0);
+    put_record(record + 8, high, check);
+}
+
+static int same_wide(DeskWideReadWord a, size_t number, size_t told, size_t verdict, size_t place, uint64_t low,
+                     uint64_t high, uint16_t check, uint16_t syndrome) {
+    return a.number == number && a.told == told && a.verdict == verdict && a.place == place && a.word.low == low &&
+           a.word.high == high && a.word.check == check && a.syndrome == syndrome;
+}
+
+static void wide_code_fields(void) {
+    DeskCheckBits bits = desk_wide_check_bits(128);
+    expect("desk_wide_check_bits: every field", bits.number == 0 && bits.bits == 9);
+    bits = desk_wide_check_bits(129);
+    expect("desk_wide_check_bits: refused", bits.number == DESK_DATA_BITS && bits.bits == 0);
+    expect("desk_check_bits: 65 data bits are still refused", desk_check_bits(65).number == DESK_DATA_BITS);
+    DeskWideMade made = desk_wide_make(128, 9);
+    expect("desk_wide_make: every field", made.number == 0 && made.code.k == 128 && made.code.r == 9 &&
+                                              made.code.columns[0] == 7 && made.code.columns[127] == 217);
+    made = desk_wide_make(128, 8);
+    expect("desk_wide_make: refused", made.number == DESK_COLUMN_ROOM && made.code.k == 0 && made.code.r == 0 &&
+                                          made.code.columns[0] == 0 && made.code.columns[127] == 0);
+    DeskWideCode code = widest();
+    DeskJudgement told = desk_wide_judge(code);
+    expect("desk_wide_judge: accepted", told.number == 0 && told.told == 0);
+    code.columns[127] = code.columns[5];
+    told = desk_wide_judge(code);
+    expect("desk_wide_judge: every field", told.number == DESK_REPEATED_COLUMN && told.told == 127);
+    DeskRowBalance balance = desk_wide_row_balance(code);
+    expect("desk_wide_row_balance: refused", balance.number == 6 && balance.told == 127 && balance.rows[0] == 0);
+    balance = desk_wide_row_balance(widest());
+    int32_t sum = 0;
+    for (size_t row = 0; row < DESK_ROWS; row++) {
+        sum += balance.rows[row];
+    }
+    expect("desk_wide_row_balance: every row", balance.number == 0 && balance.rows[0] != 0 && sum == 0);
+    code = widest();
+    code.k = 127;
+    told = desk_wide_judge(code);
+    expect("desk_wide_judge: the last place is left over", told.number == DESK_LEFTOVER && told.told == 127);
+}
+
+static void wide_word_fields(void) {
+    const uint64_t low = 0x8877665544332211, high = 0xFFEEDDCCBBAA9988, one = 1;
+    DeskWideCode code = widest();
+    DeskCheckWord written = desk_wide_write(code, low, high);
+    expect("desk_wide_write: every field", written.number == 0 && written.told == 0 && written.check < 512);
+    expect("desk_wide_read: clean",
+           same_wide(desk_wide_read(code, low, high, written.check), 0, 0, 0, 255, low, high, written.check, 0));
+    expect("desk_wide_read: place 63", same_wide(desk_wide_read(code, low ^ one << 63, high, written.check), 0, 0, 1, 63,
+                                                 low, high, written.check, code.columns[63]));
+    expect("desk_wide_read: place 64", same_wide(desk_wide_read(code, low, high ^ one, written.check), 0, 0, 1, 64, low,
+                                                 high, written.check, code.columns[64]));
+    expect("desk_wide_read: place 127", same_wide(desk_wide_read(code, low, high ^ one << 63, written.check), 0, 0, 1,
+                                                  127, low, high, written.check, code.columns[127]));
+    expect("desk_wide_read: the last check place", same_wide(desk_wide_read(code, low, high, written.check ^ 256), 0, 0,
+                                                             2, 136, low, high, written.check, 256));
+    expect("desk_wide_read: two flips, one in each half",
+           same_wide(desk_wide_read(code, low ^ one << 63, high ^ one, written.check), 0, 0, 3, 255, low ^ one << 63,
+                     high ^ one, written.check, code.columns[63] ^ code.columns[64]));
+    DeskWideMade narrow = desk_wide_make(64, 8);
+    expect("desk_wide_read: any bit of the high half is stray past 64 data bits",
+           same_wide(desk_wide_read(narrow.code, 0, 1, 0), 7, 0, 0, 0, 0, 0, 0, 0) &&
+               same_wide(desk_wide_read(narrow.code, 0, one << 63, 0), 7, 0, 0, 0, 0, 0, 0, 0));
+    DeskWideMade shorter = desk_wide_make(127, 9);
+    written = desk_wide_write(shorter.code, 0, one << 63);
+    expect("desk_wide_write: refused", written.number == DESK_STRAY_BITS && written.check == 0);
+    expect("desk_wide_write: the last bit below k", desk_wide_write(shorter.code, 0, one << 62).number == 0);
+}
+
+/* As `paired`, in 128 places: 72 explanations, and no list is longer. */
+static DeskWideCode wide_paired(void) {
+    DeskWideCode code = {.r = 16};
+    for (unsigned j = 2; j < 16; j++) {
+        code.columns[code.k++] = (uint16_t)(1u << j ^ 3);
+    }
+    for (unsigned column = 4; code.k < DESK_WIDE_COLUMNS; column += 4) {
+        if (__builtin_popcount(column) == 3) {
+            code.columns[code.k++] = (uint16_t)column;
+            code.columns[code.k++] = (uint16_t)(column ^ 3);
+        }
+    }
+    return code;
+}
+
+static void wide_lists_and_cards(void) {
+    uint8_t list[DESK_WIDE_LONGEST_LIST];
+    memset(list, 0xEE, sizeof list);
+    DeskListing a = desk_wide_explain(wide_paired(), 0, 0, 3, 2, list, sizeof list - 1);
+    expect("desk_wide_explain: the longest list, a byte short",
+           a.number == DESK_LIST_ROOM && a.told == 72 && a.length == 0 && is_filled(list, sizeof list, 0xEE));
+    a = desk_wide_explain(wide_paired(), 0, 0, 3, 2, list, sizeof list);
+    expect("desk_wide_explain: the longest list has 72 entries", a.number == 0 && a.told == 0 && a.length == 72);
+    expect("desk_wide_explain: its first and its last pair",
+           list[0] == 0 && list[1] == 130 && list[142] == 128 && list[143] == 129);
+    DeskWideCode sample = {.columns = {28, 26, 25, 22, 21, 19, 14, 13}, .k = 8, .r = 5};
+    DeskCardCheck cards = desk_wide_cards(sample, 3);
+    expect("desk_wide_cards: every field", cards.number == 9 && cards.told == 0 && cards.card == 1 && cards.mask == 7);
+    cards = desk_wide_cards(widest(), 9);
+    expect("desk_wide_cards: refused", cards.number == DESK_CARD_SIZE && cards.card == 0 && cards.mask == 0);
+}
+
+static void wide_passes(void) {
+    enum { GUARD = 64, IMAGE = 5 * DESK_WIDE_RECORD, JOURNAL = 5 * DESK_WIDE_ENTRY + 7 };
+    const uint64_t one = 1;
+    uint8_t lent[GUARD + IMAGE + GUARD + JOURNAL + GUARD];
+    uint8_t *image = lent + GUARD, *journal = image + IMAGE + GUARD;
+    memset(lent, 0xEE, sizeof lent);
+    DeskWideCode code = desk_wide_make(120, 8).code;
+    put_wide_record(image, 0, 0, 0);
+    put_wide_record(image + DESK_WIDE_RECORD, 0, one << 55, 0);
+    put_wide_record(image + 2 * DESK_WIDE_RECORD, 0, 0, 128);
+    put_wide_record(image + 3 * DESK_WIDE_RECORD, one << 63, one, 0);
+    put_wide_record(image + 4 * DESK_WIDE_RECORD, 0, one << 56, 0);
+    DeskPassAnswer a = desk_wide_pass(code, image, IMAGE, 0, 5, journal, 4 * DESK_WIDE_ENTRY - 1, 0, 1);
+    expect("desk_wide_pass: refused by 13", a.number == 13 && a.told == 4 && a.used == 0 &&
+                                                same_tally(a.tally, 0, 0, 0, 0, 0, 0) &&
+                                                is_filled(journal, JOURNAL, 0xEE));
+    a = desk_wide_pass(code, image, IMAGE, 0, 5, journal, JOURNAL, 0, 0x04030201);
+    expect("desk_wide_pass: every field",
+           a.number == 0 && a.told == 0 && a.used == 4 && same_tally(a.tally, 1, 1, 1, 1, 0, 1));
+    static const uint8_t first[] = {1, 2, 3, 4, 1, 0, DESK_DATA, 119, 254, 0};
+    expect("desk_wide_pass: the first entry", memcmp(journal, first, sizeof first) == 0 && journal[10 + 14] == 0x80 &&
+                                                  journal[10 + 18 + 14] == 0);
+    static const uint8_t last[] = {1, 2, 3, 4, 4, 0, DESK_STRAY, DESK_NO_PLACE, 0, 0};
+    expect("desk_wide_pass: the last entry", memcmp(journal + 3 * DESK_WIDE_ENTRY, last, sizeof last) == 0);
+    expect("desk_wide_pass: two records are mended",
+           is_filled(image, 3 * DESK_WIDE_RECORD, 0) && image[3 * DESK_WIDE_RECORD + 7] == 0x80);
+    expect("desk_wide_pass: bytes past the entries and guards stay",
+           is_filled(journal + 4 * DESK_WIDE_ENTRY, DESK_WIDE_ENTRY + 7 + GUARD, 0xEE) &&
+               is_filled(lent, GUARD, 0xEE) && is_filled(image + IMAGE, GUARD, 0xEE));
+    DeskPutBack back = desk_wide_put_back(image, IMAGE, journal, JOURNAL, 4);
+    expect("desk_wide_put_back: every field", back.number == 0 && back.told == 0 && back.count == 4);
+    expect("desk_wide_put_back: the image as it was read",
+           image[DESK_WIDE_RECORD + 14] == 0x80 && image[2 * DESK_WIDE_RECORD + 16] == 128);
+    back = desk_wide_put_back(image, IMAGE, journal, 2 * DESK_WIDE_ENTRY, 2);
+    expect("desk_wide_put_back: it stops at a record that does not match",
+           back.number == 18 && back.told == 0 && back.count == 0);
+    back = desk_wide_put_back(image, IMAGE, journal, 4 * DESK_ENTRY, 4);
+    expect("desk_wide_put_back: refused by 17", back.number == DESK_COUNT_IN_USE && back.count == 0);
+    back = desk_wide_put_back(image, 5 * DESK_RECORD, journal, JOURNAL, 4);
+    expect("desk_wide_put_back: refused by 12", back.number == DESK_IMAGE_LENGTH && back.count == 0);
+    a = desk_wide_pass(code, image, IMAGE, 0, 5, journal, JOURNAL, 4, 0x04030200);
+    expect("desk_wide_pass: refused by 16", a.number == DESK_STAMP);
+    a = desk_wide_pass(code, image, IMAGE, 0, 5, journal, JOURNAL, 6, UINT32_MAX);
+    expect("desk_wide_pass: refused by 17", a.number == DESK_COUNT_IN_USE);
+    a = desk_wide_pass(code, image, IMAGE, 0, 6, journal, JOURNAL, 0, 0);
+    expect("desk_wide_pass: refused by 14", a.number == DESK_RUN);
+    a = desk_wide_pass(code, image, 5 * DESK_RECORD, 0, 1, journal, JOURNAL, 0, 0);
+    expect("desk_wide_pass: records of ten bytes are refused by 12", a.number == DESK_IMAGE_LENGTH);
+}
+
+static int same_wide_word(size_t number, size_t told, DeskWideWord a, size_t refused, size_t place, uint64_t low,
+                          uint64_t high, uint16_t check) {
+    return number == refused && told == place && a.low == low && a.high == high && a.check == check;
+}
+
+static int recovers(DeskWideRecovered a, size_t number, size_t told, uint64_t low, uint64_t high, uint16_t check) {
+    return same_wide_word(a.number, a.told, a.word, number, told, low, high, check);
+}
+
+static int finds(DeskWideBadPlaces a, size_t number, size_t told, uint64_t low, uint64_t high, uint16_t check) {
+    return same_wide_word(a.number, a.told, a.word, number, told, low, high, check);
+}
+
+static void wide_bad_places(void) {
+    static const size_t halves[] = {64, 63, 136}, ends[] = {127, 0}, outside[] = {137}, again[] = {64, 64};
+    const uint64_t low = 0x8877665544332211, high = 0xFFEEDDCCBBAA9988, one = 1;
+    DeskWideCode code = widest();
+    uint16_t check = desk_wide_write(code, low, high).check;
+    expect("desk_wide_recover: a bad place in each part",
+           recovers(desk_wide_recover(code, low ^ one << 63, high ^ one, check ^ 256, halves, 3), 0, 0, low, high, check));
+    expect("desk_wide_recover: the first and the last data place",
+           recovers(desk_wide_recover(code, low ^ one, high ^ one << 63, check, ends, 2), 0, 0, low, high, check));
+    expect("desk_wide_recover: one, and a flip beside it",
+           recovers(desk_wide_recover(code, low, high ^ one ^ one << 62, check, halves, 1), 0, 0, low, high, check));
+    expect("desk_wide_recover: none, and no pointer",
+           recovers(desk_wide_recover(code, low, high ^ one, check, NULL, 0), 0, 0, low, high, check));
+    expect("desk_wide_recover: refused by 22",
+           recovers(desk_wide_recover(code, low, high, check, outside, 1), 22, 0, 0, 0, 0) &&
+               recovers(desk_wide_recover(code, low, high, check, again, 2), 22, 0, 0, 0, 0));
+    expect("desk_wide_recover: refused by 23",
+           recovers(desk_wide_recover(code, low ^ one, high ^ one, check, NULL, 0), 23, 0, 0, 0, 0));
+    expect("desk_wide_recover: refused by 7 before 22",
+           recovers(desk_wide_recover(code, low, high, 512, outside, 1), 7, 0, 0, 0, 0));
+    DeskWideWord first = {low, high, check}, second = {~low, ~high, check ^ 511};
+    expect("desk_wide_find_bad: no place", finds(desk_wide_find_bad(code, first, second), 0, 0, 0, 0, 0));
+    second = (DeskWideWord){~low ^ one << 63, ~high ^ one, check ^ 255};
+    expect("desk_wide_find_bad: every field",
+           finds(desk_wide_find_bad(code, first, second), 0, 0, one << 63, one, 256));
+    expect("desk_wide_find_bad: every place below n, and none above",
+           finds(desk_wide_find_bad(code, first, first), 0, 0, UINT64_MAX, UINT64_MAX, 511));
+    second.check = 512;
+    expect("desk_wide_find_bad: refused by 7 in either read",
+           finds(desk_wide_find_bad(code, first, second), 7, 0, 0, 0, 0) &&
+               finds(desk_wide_find_bad(code, second, first), 7, 0, 0, 0, 0));
+    code.columns[127] = code.columns[5];
+    expect("both are refused as the code is",
+           recovers(desk_wide_recover(code, low, high, 512, outside, 1), 6, 127, 0, 0, 0) &&
+               finds(desk_wide_find_bad(code, first, second), 6, 127, 0, 0, 0));
+}
+
+static void longest_wide_image(void) {
+    static uint8_t image[DESK_WIDE_IMAGE + DESK_WIDE_RECORD];
+    DeskPassAnswer a = desk_wide_pass(widest(), image, DESK_WIDE_IMAGE, 0, 3640, NULL, 0, 0, 0);
+    expect("desk_wide_pass: the longest image", a.number == DESK_DONE && same_tally(a.tally, 3640, 0, 0, 0, 0, 0));
+    a = desk_wide_pass(widest(), image, DESK_WIDE_IMAGE + DESK_WIDE_RECORD, 0, 1, NULL, 0, 0, 0);
+    expect("desk_wide_pass: a record more is refused", a.number == DESK_IMAGE_LENGTH);
+}
+
 int main(void) {
     version();
     code_fields();
@@ -546,5 +765,11 @@ int main(void) {
     byte_refusals();
     bad_fields();
     bad_refusals();
+    wide_code_fields();
+    wide_word_fields();
+    wide_lists_and_cards();
+    wide_passes();
+    wide_bad_places();
+    longest_wide_image();
     return finish();
 }

@@ -1,29 +1,16 @@
 /* Prints tests/worked.txt (on standard input) again, each question with the answer of the archive. */
 #include "codes.h"
+#include "worked_wide.h"
 
 #include <inttypes.h>
 #include <stdio.h>
 
-enum { LINE = 1024, FILL = 0xEE };
+enum { LINE = 1024 };
 
 /* What the questions are about, and the buffers that the desk writes to. */
 static DeskCode code;
 static uint8_t image[DESK_IMAGE + DESK_RECORD], journal[512], list[DESK_LONGEST_LIST];
 static size_t image_length;
-
-/* The length of a filled buffer without the bytes at its end that stayed. */
-static size_t changed(const uint8_t *bytes, size_t length) {
-    while (length > 0 && bytes[length - 1] == FILL) {
-        length--;
-    }
-    return length;
-}
-
-static void print_bytes(const char *format, const uint8_t *bytes, size_t length) {
-    for (size_t i = 0; i < length; i++) {
-        printf(format, bytes[i]);
-    }
-}
 
 static void set_columns(const char *at) {
     int more;
@@ -197,13 +184,14 @@ int main(void) {
     char line[LINE];
     while (fgets(line, sizeof line, stdin) != NULL) {
         char *answer = line[0] == '#' ? NULL : strchr(line, '=');
+        int is_wide = strncmp(line, "wide ", 5) == 0;
         if (answer == NULL) {
-            set(line);
+            is_wide ? set_wide(line + 5) : set(line);
             fputs(line, stdout);
         } else {
             *answer = '\0';
             printf("%s=", line);
-            ask(line);
+            is_wide ? ask_wide(line + 5) : ask(line);
             putchar('\n');
         }
     }

@@ -14,6 +14,18 @@ typedef struct Code {
     size_t r;
 } Code;
 
+typedef struct WideCode {
+    uint16_t columns[128];
+    size_t k;
+    size_t r;
+} WideCode;
+
+typedef struct WideWord {
+    uint64_t low;
+    uint64_t high;
+    uint16_t check;
+} WideWord;
+
 void desk_row_balance(void *answer, Code code);
 void desk_write(void *answer, Code code, uint64_t data);
 void desk_read(void *answer, Code code, uint64_t data, uint16_t check);
@@ -32,6 +44,20 @@ void desk_byte_read(void *answer, uint64_t word);
 void desk_recover(void *answer, Code code, uint64_t data, uint16_t check, const size_t *bad, size_t count);
 void desk_find_bad(void *answer, Code code, uint64_t first_data, uint16_t first_check, uint64_t second_data,
                    uint16_t second_check);
+void desk_wide_row_balance(void *answer, WideCode code);
+void desk_wide_write(void *answer, WideCode code, uint64_t low, uint64_t high);
+void desk_wide_read(void *answer, WideCode code, uint64_t low, uint64_t high, uint16_t check);
+void desk_wide_explain(void *answer, WideCode code, uint64_t low, uint64_t high, uint16_t check, size_t limit,
+                       uint8_t *list, size_t length);
+void desk_wide_cards(void *answer, WideCode code, size_t b);
+void desk_wide_pass(void *answer, WideCode code, uint8_t *image, size_t image_length, size_t start, size_t end,
+                    uint8_t *journal, size_t journal_length, size_t used, uint32_t stamp);
+void desk_wide_put_back(void *answer, uint8_t *image, size_t image_length, const uint8_t *journal,
+                        size_t journal_length, size_t used);
+void desk_wide_make(void *answer, size_t k, size_t r);
+void desk_wide_recover(void *answer, WideCode code, uint64_t low, uint64_t high, uint16_t check, const size_t *bad,
+                       size_t count);
+void desk_wide_find_bad(void *answer, WideCode code, WideWord first, WideWord second);
 
 static const Code sample = {.columns = {28, 26, 25, 22, 21, 19, 14, 13}, .k = 8, .r = 5};
 
@@ -74,7 +100,42 @@ static void recover_to(void *answer) {
 static void refused_recover_to(void *answer) { desk_recover(answer, sample, 0xA6, 27, NULL, 0); }
 static void find_bad_to(void *answer) { desk_find_bad(answer, sample, 0xA5, 27, 0x5B, 5); }
 
-enum { GUARD = 64, LARGEST = 152 };
+static const WideCode wide = {.columns = {28, 26, 25, 22, 21, 19, 14, 13}, .k = 8, .r = 5};
+
+static void wide_balance_to(void *answer) { desk_wide_row_balance(answer, wide); }
+static void wide_write_to(void *answer) { desk_wide_write(answer, wide, 0xFF, 0); }
+static void wide_read_to(void *answer) { desk_wide_read(answer, wide, 0xA6, 0, 25); }
+static void wide_refused_read_to(void *answer) { desk_wide_read(answer, wide, 0xA6, 1, 25); }
+static void wide_cards_to(void *answer) { desk_wide_cards(answer, wide, 3); }
+static void wide_make_to(void *answer) { desk_wide_make(answer, 128, 9); }
+static void wide_refused_make_to(void *answer) { desk_wide_make(answer, 128, 8); }
+static void wide_refused_recover_to(void *answer) { desk_wide_recover(answer, wide, 0xA6, 0, 27, NULL, 0); }
+static void wide_find_bad_to(void *answer) {
+    desk_wide_find_bad(answer, wide, (WideWord){0xA5, 0, 27}, (WideWord){0x5B, 0, 5});
+}
+
+static void wide_recover_to(void *answer) {
+    const size_t bad[] = {9, 1, 0};
+    desk_wide_recover(answer, wide, 0xA6, 0, 25, bad, 3);
+}
+
+static void wide_explain_to(void *answer) {
+    uint8_t list[144];
+    desk_wide_explain(answer, wide, 0xA6, 0, 27, 2, list, sizeof list);
+}
+
+static void wide_pass_to(void *answer) {
+    uint8_t image[2 * 18] = {[0] = 0xA4, [16] = 27, [18] = 0xA6, [34] = 27};
+    uint8_t journal[3 * 46] = {0};
+    desk_wide_pass(answer, wide, image, sizeof image, 0, 2, journal, sizeof journal, 1, 0x04030201);
+}
+
+static void wide_back_to(void *answer) {
+    uint8_t image[18] = {0}, journal[2 * 46] = {0};
+    desk_wide_put_back(answer, image, sizeof image, journal, sizeof journal, 2);
+}
+
+enum { GUARD = 64, LARGEST = 280 };
 
 /* Whether all bytes of the answer from `from` up to `to` are written, and nothing outside its `size` bytes. */
 static int writes_only(void (*call)(void *), size_t from, size_t to, size_t size) {
@@ -100,6 +161,11 @@ static int writes_sheet(void (*call)(void *)) {
     return writes_only(call, 0, 17, 48) && writes_only(call, 24, 48, 48);
 }
 
+/* The fields of a wide reading: 34 bytes, and 18 behind a gap of 6. */
+static int writes_reading(void (*call)(void *)) {
+    return writes_only(call, 0, 34, 64) && writes_only(call, 40, 58, 64);
+}
+
 int main(void) {
     expect("desk_row_balance writes all 80 bytes of its answer, and no other", writes_only(balance_to, 0, 80, 80));
     expect("desk_write writes 18 bytes of its 24, and no other", writes_only(write_to, 0, 18, 24));
@@ -118,5 +184,20 @@ int main(void) {
     expect("desk_recover writes 26 bytes of its 32, and no other", writes_only(recover_to, 0, 26, 32));
     expect("desk_recover writes them where it refuses too", writes_only(refused_recover_to, 0, 26, 32));
     expect("desk_find_bad writes 26 bytes of its 32, and no other", writes_only(find_bad_to, 0, 26, 32));
+    expect("desk_wide_row_balance writes all 80 bytes of its answer, and no other",
+           writes_only(wide_balance_to, 0, 80, 80));
+    expect("desk_wide_write writes 18 bytes of its 24, and no other", writes_only(wide_write_to, 0, 18, 24));
+    expect("desk_wide_read writes its fields, and no other", writes_reading(wide_read_to));
+    expect("desk_wide_read writes its fields where it refuses too", writes_reading(wide_refused_read_to));
+    expect("desk_wide_explain writes all 24 bytes of its answer, and no other",
+           writes_only(wide_explain_to, 0, 24, 24));
+    expect("desk_wide_cards writes all 32 bytes of its answer, and no other", writes_only(wide_cards_to, 0, 32, 32));
+    expect("desk_wide_pass writes 36 bytes of its 40, and no other", writes_only(wide_pass_to, 0, 36, 40));
+    expect("desk_wide_put_back writes all 24 bytes of its answer, and no other", writes_only(wide_back_to, 0, 24, 24));
+    expect("desk_wide_make writes all 280 bytes of its answer, and no other", writes_only(wide_make_to, 0, 280, 280));
+    expect("desk_wide_make writes all of them where it refuses too", writes_only(wide_refused_make_to, 0, 280, 280));
+    expect("desk_wide_recover writes 34 bytes of its 40, and no other", writes_only(wide_recover_to, 0, 34, 40));
+    expect("desk_wide_recover writes them where it refuses too", writes_only(wide_refused_recover_to, 0, 34, 40));
+    expect("desk_wide_find_bad writes 34 bytes of its 40, and no other", writes_only(wide_find_bad_to, 0, 34, 40));
     return finish();
 }

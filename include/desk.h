@@ -6,8 +6,8 @@
  * by every call that has one.
  *
  * Answers. `number` is 0 (done) or the number of the refusal, and `told` is what goes with that number in the table
- * below, else 0. Numbers 9 and 18 tell in fields of their own: card and mask, and count. DeskCheckBits and DeskMade tell
- * nothing, and have no `told`. A refusal has 0 in every other field, so `yes` is false, and changes no byte that was lent;
+ * below, else 0. Numbers 9 and 18 tell in fields of their own: card and mask, and count. DeskCheckBits, DeskMade and
+ * DeskWideMade tell nothing, and have no `told`. A refusal has 0 in every other field, so `yes` is false, and changes no byte that was lent;
  * 18 alone leaves what desk_put_back put back before it. Answers have padding, whose bytes may be anything: compare
  * fields, and not the whole by memcmp.
  *
@@ -15,7 +15,7 @@
  *   start, end  records, from the image's first; the record at `end` is not in the run
  *   length      entries of the list, two bytes each
  *   used        entries of the journal, DESK_ENTRY bytes each: those in use before a call, and in a pass's answer those
- *               after it
+ *               after it (in the wide edition DESK_WIDE_ENTRY bytes each)
  *   count       entries of the journal: those that were put back; handed in with `bad`, the places that it names
  *   told        with 3 to 6 and 21 a place, with 10 entries of the list, with 13 entries of the journal
  *
@@ -59,7 +59,7 @@ extern "C" {
 /* The field `number` of an answer: exactly when, and what is told. It is the table of docs/refusals.txt. */
 enum DeskNumber {
     DESK_DONE = 0,            /* done */
-    DESK_DATA_BITS = 1,       /* k is 0 or over 64 */
+    DESK_DATA_BITS = 1,       /* k is 0 or over 64; wide edition: over 128 */
     DESK_CHECK_BITS = 2,      /* r below 3 or over 16 */
     DESK_WIDE_COLUMN = 3,     /* a column is 2^r or more; told: first bad place */
     DESK_EVEN_COLUMN = 4,     /* a column has an even count of ones, 0 included; told: place */
@@ -72,9 +72,9 @@ enum DeskNumber {
     DESK_WEAK_CARD = 9,       /* code not card-proof for b; told: card, mask */
     DESK_LIST_ROOM = 10,      /* list longer than its room; told: list's length */
     DESK_FLIP_LIMIT = 11,     /* flip limit over 2 */
-    DESK_IMAGE_LENGTH = 12,   /* image length no multiple of 10, or over 65,530 */
-    DESK_JOURNAL_ROOM = 13,   /* journal room left (its length / 30, down, less the entries in use) below the entries
-                                 needed; told: entries needed */
+    DESK_IMAGE_LENGTH = 12,   /* image length no multiple of 10, or over 65,530; wide edition: of 18, over 65,520 */
+    DESK_JOURNAL_ROOM = 13,   /* journal room left (its length / 30, wide edition: / 46, down, less the entries in use)
+                                 below the entries needed; told: entries needed */
     DESK_RUN = 14,            /* run's start above its end, or its end above the number of records */
     DESK_COLUMN_ROOM = 15,    /* making a code: k is over 2^(r-1) - r */
     DESK_STAMP = 16,          /* the pass's stamp is below the last used entry's */
@@ -117,6 +117,13 @@ enum DeskByteVerdict {
 #define DESK_ENTRY 30         /* bytes of a journal entry: stamp in 4, record number in 2, verdict, place, syndrome in 2,
                                  10 as read, 10 as left; numbers low byte first. A stray record's syndrome is 0 */
 #define DESK_IMAGE 65530      /* bytes of the longest image */
+
+/* The same sizes in the wide edition. */
+#define DESK_WIDE_COLUMNS 128
+#define DESK_WIDE_LONGEST_LIST 144
+#define DESK_WIDE_RECORD 18   /* data in 16, check bits in 2, low byte first */
+#define DESK_WIDE_ENTRY 46    /* as DESK_ENTRY, with 18 bytes as read and 18 as left */
+#define DESK_WIDE_IMAGE 65520 /* 3,640 records */
 
 /* A code: k data columns, each with row j as its bit j, and r check bits. Places past k hold 0. */
 typedef struct DeskCode {
@@ -273,6 +280,50 @@ typedef struct DeskBadPlaces {
     uint16_t check;
 } DeskBadPlaces;
 
+/* A code of the wide edition: as DeskCode, with 128 places. */
+typedef struct DeskWideCode {
+    uint16_t columns[DESK_WIDE_COLUMNS];
+    size_t k;
+    size_t r;
+} DeskWideCode;
+
+/* A word of the wide edition: data bits 0 to 63 in `low`, 64 to 127 in `high`. */
+typedef struct DeskWideWord {
+    uint64_t low;
+    uint64_t high;
+    uint16_t check;
+} DeskWideWord;
+
+/* The answer of desk_wide_read: as DeskReadWord, with the word that is handed back as one struct. */
+typedef struct DeskWideReadWord {
+    size_t number;
+    size_t told;
+    size_t verdict;
+    size_t place;
+    uint16_t syndrome;
+    DeskWideWord word;
+} DeskWideReadWord;
+
+/* The answer of desk_wide_make. */
+typedef struct DeskWideMade {
+    size_t number;
+    DeskWideCode code;
+} DeskWideMade;
+
+/* The answer of desk_wide_recover: the code word. */
+typedef struct DeskWideRecovered {
+    size_t number;
+    size_t told;
+    DeskWideWord word;
+} DeskWideRecovered;
+
+/* The answer of desk_wide_find_bad: a one for each bad place. */
+typedef struct DeskWideBadPlaces {
+    size_t number;
+    size_t told;
+    DeskWideWord word;
+} DeskWideBadPlaces;
+
 /* The version of the archive: DESK_VERSION of the header that goes with it. */
 size_t desk_version(void);
 
@@ -371,6 +422,32 @@ DeskRecovered desk_recover(DeskCode code, uint64_t data, uint16_t check, const s
  */
 DeskBadPlaces desk_find_bad(DeskCode code, uint64_t first_data, uint16_t first_check, uint64_t second_data,
                             uint16_t second_check);
+
+/*
+ * The wide edition: codes of up to 128 data bits, words in two halves, records of 18 bytes, entries of 46. Every question
+ * that takes a code or makes one, with the refusals of the question above; 1, 12, 13 and 17 read this edition's sizes.
+ * The edition belongs to the call: a wide code of 8 data bits has records of 18 bytes, and a code of more than 64 data
+ * bits is refused with 1 by the functions above. One image and its journal keep to one edition.
+ */
+
+DeskCheckBits desk_wide_check_bits(size_t k);
+DeskJudgement desk_wide_judge(DeskWideCode code);
+DeskRowBalance desk_wide_row_balance(DeskWideCode code);
+DeskCheckWord desk_wide_write(DeskWideCode code, uint64_t low, uint64_t high);
+DeskWideReadWord desk_wide_read(DeskWideCode code, uint64_t low, uint64_t high, uint16_t check);
+
+/* No list has more than 72 entries. */
+DeskListing desk_wide_explain(DeskWideCode code, uint64_t low, uint64_t high, uint16_t check, size_t limit,
+                              uint8_t *list, size_t list_length);
+DeskCardCheck desk_wide_cards(DeskWideCode code, size_t b);
+DeskPassAnswer desk_wide_pass(DeskWideCode code, uint8_t *image, size_t image_length, size_t start, size_t end,
+                              uint8_t *journal, size_t journal_length, size_t used, uint32_t stamp);
+DeskPutBack desk_wide_put_back(uint8_t *image, size_t image_length, const uint8_t *journal, size_t journal_length,
+                               size_t used);
+DeskWideMade desk_wide_make(size_t k, size_t r);
+DeskWideRecovered desk_wide_recover(DeskWideCode code, uint64_t low, uint64_t high, uint16_t check, const size_t *bad,
+                                    size_t count);
+DeskWideBadPlaces desk_wide_find_bad(DeskWideCode code, DeskWideWord first, DeskWideWord second);
 
 #ifdef __cplusplus
 }

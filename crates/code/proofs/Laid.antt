@@ -1,5 +1,5 @@
 -- Opened codes are laid out within their places, accepted or refused. Assumes nothing.
-use mathlib.Core.Path.{_≡_, refl, sym, ap}
+use mathlib.Core.Path.{_≡_, refl, sym, ap, subst, _∙_}
 use mathlib.Core.Bool.{Bool, true, false, true≢false}
 use mathlib.Core.List.{List}
 use Prim.Native.Nat.{ℕ, _+_, _≤_}
@@ -9,6 +9,7 @@ use lib.Seq.{length-take-le}
 use Rattle.parity.specs.Odd.{allRows}
 use Rattle.columns.proofs.Singles.{length-joined}
 use Rattle.code.specs.declared.Refusal.{Refusal}
+use Rattle.code.specs.declared.Opened.{Opened}
 use Rattle.code.specs.declared.Standing.{Standing}
 use Rattle.code.specs.declared.Standing.the-variants as standing
 use Rattle.judge.specs.declared.Judged.{Judged}
@@ -58,3 +59,12 @@ laid-in most columns k r e h =
     let l = length-take-le k columns (omega arith) in
     let n = length-joined (take k columns) r in
     (omega arith, omega arith, few))
+
+-- a code whose places are all of an array of `most` places
+pub opened-within : (most : ℕ) (columns : List ℕ) (k r : ℕ) → length columns ≡ most → most ≤ 128
+    → (o : Opened) → o ≡ openedIn (length columns) columns k r
+    → (o ≡ openedIn most columns k r) × (Laid o × (o .k ≤ most))
+opened-within most columns k r e h o s =
+    let is = s ∙ ap (λ (m : ℕ). openedIn m columns k r) e in
+    let l = laid-in most columns k r e h in
+    (is, (subst Laid (sym is) (l .0), subst (λ (x : Opened). x .k ≤ most) (sym is) (l .1)))

@@ -13,6 +13,8 @@ use Rattle.demands.proofs.OfMaking as making
 use Rattle.demands.proofs.OfBytes as bytes
 use Rattle.demands.proofs.OfPutBack as back
 use Rattle.demands.proofs.OfBad as bad
+use Rattle.demands.specs.Editions as of-editions
+use Rattle.demands.proofs.OfEditions as editions
 
 pub sizes : demands.Sizes
 sizes = tallies.sizes
@@ -323,3 +325,23 @@ stuck-found = bad.stuck-found
 
 pub found-recovered : demands.FoundRecovered
 found-recovered = bad.found-recovered
+
+-- ---- the two editions
+
+pub ten-bytes-promised : of-editions.TenBytesPromised
+ten-bytes-promised = editions.ten-bytes-promised
+
+pub wide-promised : of-editions.WidePromised
+wide-promised = editions.wide-promised
+
+pub wide-sizes : of-editions.WideSizes
+wide-sizes = editions.wide-sizes
+
+pub wide-lists : of-editions.WideLists
+wide-lists = editions.wide-lists
+
+pub wide-check-bits : of-editions.WideCheckBits
+wide-check-bits = editions.wide-check-bits
+
+pub wide-answers : of-editions.WideAnswers
+wide-answers = editions.wide-answers

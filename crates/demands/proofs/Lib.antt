@@ -1,5 +1,5 @@
-pub mod Codes
-pub mod Words
+pub mod OfEditions
+pub mod Narrow
 pub mod OfJudge
 pub mod OfMaking
 pub mod OfCodes

@@ -1,396 +1,153 @@
--- The demands on places known to be bad, proved from the layers' laws. Assumes nothing.
+-- The demands on places known to be bad: the promises of the ten-byte edition, for words with an empty high half. Assumes nothing.
 use mathlib.Core.Path.{_≡_, refl, sym, ap, ap₂, subst, _∙_}
-use mathlib.Core.Logic.{_≢_, _⊎_, inl, inr, ⊎-elim, _↔_}
-use mathlib.Core.Bool.{Bool, true, false, cond, true≢false}
-use mathlib.Core.List.{List, [], List·Memᴰ}
-use Prim.Native.Nat.{ℕ, zero, suc, _-_, _^_, _≤_, _<_}
+use mathlib.Core.Logic.{_⊎_, inl, inr, ⊎-elim, _↔_}
+use mathlib.Core.List.{List, List·Memᴰ}
+use Prim.Native.Nat.{ℕ}
 use native.Mathlib.Omega.{arith}
-use borrow.Author.Tests.{lt-ltb}
-use lib.Bits.{bitXor}
-use lib.Dec.{ltb}
-use lib.ListN.{length, getD}
-use Rattle.parity.specs.Odd.{allRows}
-use Rattle.parity.proofs.Xor.{eq-of-xor-zero}
-use Rattle.columns.specs.Mix.{column}
 use Rattle.columns.specs.Bits.{bitAt}
-use Rattle.columns.proofs.Errors.{column-nonzero, pair-nonzero, pair-no-column}
 use Rattle.code.specs.declared.Code.{Code}
-use Rattle.code.specs.declared.Opened.{Opened}
-use Rattle.code.specs.Rule.{matrixOf}
-use Rattle.code.specs.Opened.{openedOf, only}
-use Rattle.code.proofs.Laying.{laid-columns}
+use Rattle.code.specs.Opened.{openedOf}
 use Rattle.word.specs.declared.Word.{Word}
-use Rattle.verdict.specs.declared.Verdict.{Verdict}
-use Rattle.verdict.specs.declared.Verdict.the-variants.{Clean, Data, Check, Even, Odd, Stray}
-use Rattle.word.specs.Word.{wordOf, dataOf, checkOf, inParts, strayIn}
-use Rattle.verdict.specs.Verdicts.{findingOf}
-use Rattle.mending.proofs.Parts.{data-of-word, check-of-word, word-of-parts, number-of-parts, parts-unstrayed}
-use Rattle.mending.proofs.Reading.{data-inside, mendedNumber}
-use Rattle.explained.proofs.Explanations.{clean-exactly}
-use Rattle.reach.specs.declared.Reached.{Reached}
-use Rattle.reach.specs.declared.Reached.the-variants.{Nothing, Proper}
-use Rattle.reach.specs.Places.{stands, wrongPlaces}
-use Rattle.reach.proofs.Places.{right-places}
-use Rattle.recover.specs.Recover as recovering
-use Rattle.recover.specs.Recover.{flipsBeside, properWords, firstOf, recoverIn, recoverOf}
-use Rattle.recover.proofs.Answers.{in-stray, in-wrong, in-reach, answer-refused}
-use Rattle.finder.specs.Finder.{agreeing, refusedFound, findIn, findAs, findOf}
-use Rattle.finder.proofs.Answers.{find-first, find-second, find-done}
-use Rattle.recovered.specs.Named.{WrongPlaces}
-use Rattle.recovered.specs.Outside.{differing}
-use Rattle.recovered.specs.Within.{Within}
-use Rattle.recovered.proofs.Named.{stands-in, in-stands, at-stands, wrong-exactly, right-exactly}
-use Rattle.recovered.proofs.Outside.{differs-at, differs-nowhere}
-use Rattle.recovered.proofs.Exactly.{within-once, within-found, found-within, none-found}
-use Rattle.recovered.proofs.AsRead.{readBack, none-bad, any-order}
-use Rattle.recovered.proofs.Finding as finding
+use Rattle.word.specs.Word.{wordOf, checkOf}
+use Rattle.mending.proofs.Parts.{word-of-parts}
+use Rattle.recover.specs.Recover.{recoverOf}
+use Rattle.finder.specs.Finder.{agreeing, findOf}
+use Rattle.finder.specs.declared.Found.{Found}
+use Rattle.editions.specs.Given as any
+use Rattle.editions.proofs.OfBad as of-any
+use Rattle.desk.specs.declared.ReadWord.{ReadWord}
 use Rattle.desk.specs.declared.Recovered.{Recovered}
-use Rattle.desk.specs.declared.BadPlaces.{BadPlaces}
-use Rattle.desk.specs.Answers.{judgementOf, wordWith, recoveredBy, recoveredOf, badPlacesBy, badPlacesOf}
-use Rattle.demands.specs.Definitions.{Accepted, Unstrayed, placesOf, read, onlyNumber}
-use Rattle.demands.specs.Bad.{recover, givenBack, refusedRecovered, Recoverable, findBad, foundIn}
+use Rattle.desk.specs.Answers.{wordWith, recoveredBy, badPlacesBy}
+use Rattle.demands.specs.Definitions.{Accepted, Unstrayed, placesOf}
+use Rattle.demands.specs.Bad.{recover, givenBack, Recoverable, foundIn}
 use Rattle.demands.specs.Demands as demands
-use Rattle.demands.proofs.Codes.{standing-refused, opened-is, places-length, sound-of}
-use Rattle.demands.proofs.Words.{verdictAt, answered, answered-as, parts-are, low-is, clean-zero}
-use Rattle.demands.proofs.OfWords.{stray-is, strayed, whole-fits}
-
--- what a reached word is answered by
-abbrev answerTo : Reached → Recovered
-answerTo x = recoveredBy (recovering.recoveredBy x)
+use Rattle.demands.specs.Editions.{narrow}
+use Rattle.demands.proofs.Narrow.{accepted, strays, fits, low-is, parts-are, read-is, verdict-is, clean, clean-back}
 
 module _ (code : Code) (a : Accepted code) where
-  abbrev rows : ℕ
-  rows = allRows (code .r)
+  recover-is : (w : ℕ) (bad : List ℕ) → recover code w bad ≡ recoveredBy (any.recover (narrow code) w bad)
+  recover-is w bad = ap (λ (x : Word). recoveredBy (recoverOf (openedOf code) x bad)) (parts-are code a w)
 
-  abbrev cs : List ℕ
-  cs = matrixOf code
+  given-is : (u : ℕ) → recoveredBy (any.givenBack (narrow code) u) ≡ givenBack code u
+  given-is u = ap (λ (d : ℕ). record { number = 0; told = 0; «data» = d; check = checkOf (code .k) u }) (low-is code a u)
 
-  recovering-is : (x : Word) (bad : List ℕ) → recoverOf (openedOf code) x bad ≡ recoverIn rows cs (code .k) x bad
-  recovering-is x bad =
-      ap (λ (o : Opened). recoverOf o x bad) (opened-is code (a .number))
-      ∙ ap (λ (l : List ℕ). recoverIn rows l (code .k) x bad) (laid-columns cs)
+  -- a word that is handed back by the one is handed back by the other
+  back : (w : ℕ) (bad : List ℕ) (u : ℕ) → any.recover (narrow code) w bad ≡ any.givenBack (narrow code) u
+      → recover code w bad ≡ givenBack code u
+  back w bad u e = recover-is w bad ∙ ap recoveredBy e ∙ given-is u
 
-  finding-is : (x y : Word) → findOf (openedOf code) x y ≡ findIn cs (code .k) x y
-  finding-is x y =
-      ap (λ (o : Opened). findOf o x y) (opened-is code (a .number)) ∙ ap (λ (l : List ℕ). findIn l (code .k) x y) (laid-columns cs)
+  -- an answer tells its word
+  given-tells : (u v : ℕ) → givenBack code u ≡ givenBack code v → u ≡ v
+  given-tells u v e =
+      sym (word-of-parts (code .k) u)
+      ∙ ap₂ (wordOf (code .k)) (ap (λ (x : Recovered). x .«data») e) (ap (λ (x : Recovered). x .check) e)
+      ∙ word-of-parts (code .k) v
 
-  -- a word as one number has no stray bit
-  module _ (w : ℕ) (fits : Unstrayed code w) where
-    inside : w < 2 ^ length cs
-    inside = rw (places-length code a) fits
+  near : (w : ℕ) (bad : List ℕ) (u : ℕ) → Recoverable code w bad u → any.Recoverable (narrow code) w bad u
+  near w bad u x = record { fits = x .fits; clean = clean code a u (x .clean); near = x .near }
 
-    whole : strayIn (length cs) (code .k) (inParts (code .k) w) ≡ false
-    whole = parts-unstrayed (length cs) (code .k) w (data-inside rows (sound-of code a)) inside
-
-    -- the answers of a word as one number
-    recover-is : (bad : List ℕ) → recover code w bad ≡ recoveredBy (recoverIn rows cs (code .k) (inParts (code .k) w) bad)
-    recover-is bad =
-        ap (λ (x : Word). recoveredBy (recoverOf (openedOf code) x bad)) (parts-are code a w)
-        ∙ ap recoveredBy (recovering-is (inParts (code .k) w) bad)
-
-    module _ (bad : List ℕ) (right : ¬ (WrongPlaces (placesOf code) bad)) where
-      right-is : wrongPlaces (length cs) bad ≡ false
-      right-is = ap (λ (n : ℕ). wrongPlaces n bad) (places-length code a) ∙ right-exactly (placesOf code) bad right
-
-      abbrev reached : Reached
-      reached = firstOf (code .k) (properWords rows cs (code .k) w bad)
-
-      recover-reached : recover code w bad ≡ answerTo reached
-      recover-reached =
-          recover-is bad
-          ∙ ap recoveredBy (in-reach rows cs (code .k) (inParts (code .k) w) bad whole right-is
-          ∙ ap (λ (x : ℕ). recovering.recoveredBy (firstOf (code .k) (properWords rows cs (code .k) x bad))) (number-of-parts (code .k) w))
-
-      -- the two ways to say that a word is near
-      flips-are : (e : ℕ) → e ≤ 3 → cond (ltb e 2) 1 0 ≡ flipsBeside e
-      flips-are zero h = refl
-      flips-are (suc zero) h = refl
-      flips-are (suc (suc zero)) h = refl
-      flips-are (suc (suc (suc zero))) h = refl
-      flips-are (suc (suc (suc (suc e)))) h = absurd (omega arith)
-
-      spare : cond (ltb (length bad) 2) 1 0 ≡ flipsBeside (length bad)
-      spare = flips-are (length bad) (right-places (length cs) bad right-is .0)
-
-      within : (u : ℕ) → Recoverable code w bad u → Within rows cs (code .k) w bad u
-      within u x =
-          let l : u < 2 ^ length cs = rw (places-length code a) (x .fits) in
-          record {
-            fits = l;
-            proper =
-                clean-exactly rows cs (code .k) u (data-inside rows (sound-of code a)) l .1
-                (clean-zero code a u (x .fits) .0 (x .clean));
-            near = omega (arith, x .near, spare, ap (λ (n : ℕ). differing n bad u w) (places-length code a));
-          }
-
-      recoverable : (u : ℕ) → Within rows cs (code .k) w bad u → Recoverable code w bad u
-      recoverable u x =
-          let l : Unstrayed code u = rw (places-length code a) at (x .fits) in
-          record {
-            fits = l;
-            clean =
-                clean-zero code a u l .1
-                (clean-exactly rows cs (code .k) u (data-inside rows (sound-of code a)) (x .fits) .0 (x .proper));
-            near = omega (arith, x .near, spare, ap (λ (n : ℕ). differing n bad u w) (places-length code a));
-          }
-
-      answer-given : (u : ℕ) → answerTo (Proper (inParts (code .k) u)) ≡ givenBack code u
-      answer-given u = ap (λ (d : ℕ). record { number = 0; told = 0; «data» = d; check = checkOf (code .k) u }) (low-is code a u)
-
-      -- an answer tells its word
-      given-tells : (u v : ℕ) → givenBack code u ≡ givenBack code v → u ≡ v
-      given-tells u v e =
-          sym (word-of-parts (code .k) u)
-          ∙ ap₂ (wordOf (code .k)) (ap (λ (x : Recovered). x .«data») e) (ap (λ (x : Recovered). x .check) e)
-          ∙ word-of-parts (code .k) v
-
-      given-found : (u : ℕ) → Recoverable code w bad u → recover code w bad ≡ givenBack code u
-      given-found u x =
-          recover-reached ∙ ap answerTo (within-found rows (sound-of code a) w bad inside right-is u (within u x)) ∙ answer-given u
-
-      found-given : (x : Reached) → reached ≡ x → (u : ℕ) → recover code w bad ≡ givenBack code u → Recoverable code w bad u
-      found-given Nothing e u h =
-          let z : _≡_ {A = ℕ} 23 0 = ap (λ (y : Recovered). y .number) (sym (recover-reached ∙ ap answerTo e) ∙ h) in
-          absurd (omega arith)
-      found-given (Proper x) e u h =
-          let i = found-within rows (sound-of code a) w bad inside right-is x e in
-          let same = given-tells (i .0) u (sym (recover-reached ∙ ap answerTo (e ∙ ap Proper (i .2)) ∙ answer-given (i .0)) ∙ h) in
-          subst (Recoverable code w bad) same (recoverable (i .0) (i .1))
-
-      none-given : recover code w bad ≡ refusedRecovered (onlyNumber 23) → (u : ℕ) → ¬ (Recoverable code w bad u)
-      none-given h u y =
-          let z : _≡_ {A = ℕ} 23 0 = ap (λ (v : Recovered). v .number) (sym h ∙ given-found u y) in
-          omega arith
-
-      given-none : ((u : ℕ) → ¬ (Recoverable code w bad u)) → recover code w bad ≡ refusedRecovered (onlyNumber 23)
-      given-none h =
-          recover-reached
-          ∙ ap answerTo (none-found rows (sound-of code a) w bad inside right-is .0 (λ u x. h u (recoverable u x)))
-
-      either : (x : Reached) → reached ≡ x
-          → (recover code w bad ≡ refusedRecovered (onlyNumber 23)) ⊎ ((recover code w bad .number ≡ 0) × (recover code w bad .told ≡ 0))
-      either Nothing e = inl (recover-reached ∙ ap answerTo e)
-      either (Proper x) e =
-          let y = recover-reached ∙ ap answerTo e in
-          inr (ap (λ (v : Recovered). v .number) y, ap (λ (v : Recovered). v .told) y)
-
--- ---- the demands
+  near-back : (w : ℕ) (bad : List ℕ) (u : ℕ) → any.Recoverable (narrow code) w bad u → Recoverable code w bad u
+  near-back w bad u x = record { fits = x .fits; clean = clean-back code a u (x .clean); near = x .near }
 
 pub recovering-refuses : demands.RecoveringRefuses
 recovering-refuses code low high bad =
-    let x = wordWith low high in
-    let n : Accepted code → length (matrixOf code) ≡ placesOf code = places-length code in (
-      λ h. ap recoveredBy (answer-refused (openedOf code) x bad (judgementOf code) (standing-refused code h)),
-      λ a h.
-          ap recoveredBy (recovering-is code a x bad
-          ∙ in-stray (allRows (code .r)) (matrixOf code) (code .k) x bad (stray-is code a low high ∙ strayed code a low high h)),
-      λ a l h wrong.
-          let w = wordOf (code .k) low high in
-          let fits = whole-fits code a low l high h in
-          parts a l h
-          ∙ recover-is code a w fits bad
-          ∙ ap recoveredBy (in-wrong (allRows (code .r)) (matrixOf code) (code .k) (inParts (code .k) w) bad (whole code a w fits)
-          (ap (λ (m : ℕ). wrongPlaces m bad) (n a) ∙ wrong-exactly (placesOf code) bad .1 wrong)),
+    let x = of-any.recovering-refuses (narrow code) (wordWith low high) bad in (
+      λ h. ap recoveredBy (x .0 h),
+      λ a h. ap recoveredBy (x .1 (accepted code a) (strays code low high h)),
+      λ a l h wrong. ap recoveredBy (x .2 (accepted code a) (fits code a low high l h) wrong),
       λ a l h right.
-          let w = wordOf (code .k) low high in
-          let fits = whole-fits code a low l high h in
-          subst (λ (y : Recovered). (y ≡ refusedRecovered (onlyNumber 23)) ⊎ ((y .number ≡ 0) × (y .told ≡ 0)))
-          (sym (parts a l h)) (either code a w fits bad right _ refl),
+          ⊎-elim (λ e. inl (ap recoveredBy e)) (λ y. inr y) (x .3 (accepted code a) (fits code a low high l h) right),
     )
-  where
-    parts : Accepted code → low < 2 ^ code .k → high < 2 ^ code .r
-        → recoveredOf code low high bad ≡ recover code (wordOf (code .k) low high) bad
-    parts a l h =
-        sym (ap₂ (λ (x y : ℕ). recoveredOf code x y bad) (data-of-word (code .k) low high l) (check-of-word (code .k) low high l))
 
 pub recovered-exactly : demands.RecoveredExactly
-recovered-exactly code a w fits bad right = (
-  λ u. (found-given code a w fits bad right _ refl u, given-found code a w fits bad right u),
-  (none-given code a w fits bad right, given-none code a w fits bad right),
-)
+recovered-exactly code a w fit bad right =
+    let x = of-any.recovered-exactly (narrow code) (accepted code a) w fit bad right in
+    let from : (u : ℕ) → Recoverable code w bad u → recover code w bad ≡ givenBack code u =
+    λ u r. back code a w bad u (x .0 u .1 (near code a w bad u r)) in (
+      λ u. (
+        λ h.
+            ⊎-elim
+            (λ e. let z : _≡_ {A = ℕ} 23 0 = ap (λ (y : Recovered). y .number) (sym (recover-is code a w bad ∙ ap recoveredBy e) ∙ h) in
+            absurd (omega arith))
+            (λ i.
+            let same = given-tells code a (i .0) u (sym (back code a w bad (i .0) (i .1)) ∙ h) in
+            subst (Recoverable code w bad) same (near-back code a w bad (i .0) (i .2)))
+            (of-any.one-of-two (narrow code) (accepted code a) w fit bad right _ refl),
+        from u,
+      ),
+      (
+        λ h u r. let z : _≡_ {A = ℕ} 23 0 = ap (λ (y : Recovered). y .number) (sym h ∙ from u r) in omega arith,
+        λ h. recover-is code a w bad ∙ ap recoveredBy (x .1 .1 (λ u r. h u (near-back code a w bad u r))),
+      ),
+    )
 
 pub recovered-only : demands.RecoveredOnly
-recovered-only code a w fits bad right u v x y =
-    within-once (allRows (code .r)) (sound-of code a) w bad (inside code a w fits) (right-is code a w fits bad right) u v
-    (within code a w fits bad right u x) (within code a w fits bad right v y)
+recovered-only code a w fit bad right u v x y =
+    of-any.recovered-only (narrow code) (accepted code a) w fit bad right u v (near code a w bad u x) (near code a w bad v y)
 
 pub three-columns : demands.ThreeColumns
-three-columns code a =
-    let s = sound-of code a in
-    let n = places-length code a in (
-      λ p h. column-nonzero (s .good) (s .parity) p (omega arith),
-      λ p q h l ne. pair-nonzero (s .good) p q (omega arith) (omega arith) ne,
-      λ p q t h l m ne nf ng e.
-          pair-no-column (s .good) (s .parity) p q t (omega arith) (omega arith) (omega arith)
-          (eq-of-xor-zero (bitXor (column (matrixOf code) p) (column (matrixOf code) q)) (column (matrixOf code) t) e),
-    )
-
--- a place that is not found in the list is no member of it
-away : (p : ℕ) (bad : List ℕ) → stands p bad ≡ false → ¬ (List·Memᴰ p bad)
-away p bad h m = true≢false (sym (in-stands p bad m) ∙ h)
+three-columns code a = of-any.three-columns (narrow code) (accepted code a)
 
 pub recovered-from-bad : demands.RecoveredFromBad
-recovered-from-bad code a u w hu clean hw bad right = (
-  λ alike.
-      let d = differs-nowhere (placesOf code) bad u w (λ p l h. alike p l (away p bad h)) in
-      given-found code a w hw bad right u (record { fits = hu; clean = clean; near = omega (arith, d) }),
-  λ few q alike.
-      let d = differs-at (placesOf code) bad u w q (λ p l h ne. alike p l (away p bad h) ne) in
-      let one = ap (λ (b : Bool). cond {A = ℕ} b 1 0) (lt-ltb (length bad) 2 (omega arith)) in
-      given-found code a w hw bad right u (record { fits = hu; clean = clean; near = omega (arith, d, one) }),
-)
-
--- nothing is wrong with no bad place
-none-right : (n : ℕ) → ¬ (WrongPlaces n [])
-none-right n =
-    ⊎-elim (λ (h : 3 < 0). omega arith) (⊎-elim (λ x. omega (arith, x .3)) (λ x. omega (arith, x .1)))
-
-module _ (code : Code) (a : Accepted code) (w : ℕ) (fits : Unstrayed code w) where
-  -- the word that reading hands back
-  abbrev asRead : Recovered
-  asRead = record { number = 0; told = 0; «data» = read code w .«data»; check = read code w .check }
-
-  by-verdict : (v : Verdict) → verdictAt code a w ≡ v → recover code w [] ≡ answerTo (readBack v (code .k) w)
-  by-verdict v e =
-      recover-reached code a w fits [] (none-right (placesOf code))
-      ∙ ap answerTo
-      (none-bad (allRows (code .r)) (sound-of code a) w (inside code a w fits) ∙ ap (λ (x : Verdict). readBack x (code .k) w) e)
-
-  mended-is : (v : Verdict) → verdictAt code a w ≡ v → answerTo (Proper (inParts (code .k) (mendedNumber v w))) ≡ asRead
-  mended-is v e =
-      let h = answered-as code a w fits v e .hands in
-      answer-given code a w fits [] (none-right (placesOf code)) (mendedNumber v w)
-      ∙ ap₂ (λ (x y : ℕ). record { number = 0; told = 0; «data» = x; check = y }) (sym (h .data-bits)) (sym (h .check-bits))
-
-  back : (v : Verdict) → verdictAt code a w ≡ v → findingOf v .verdict ≤ 2 → recover code w [] ≡ asRead
-  back Clean e h = by-verdict Clean e ∙ mended-is Clean e
-  back (Data p) e h = by-verdict (Data p) e ∙ mended-is (Data p) e
-  back (Check p) e h = by-verdict (Check p) e ∙ mended-is (Check p) e
-  back Even e h = absurd (omega arith)
-  back Odd e h = absurd (omega arith)
-  back Stray e h = absurd (omega arith)
-
-  flagged : (v : Verdict) → verdictAt code a w ≡ v → 3 ≤ findingOf v .verdict → recover code w [] ≡ refusedRecovered (onlyNumber 23)
-  flagged Clean e h = absurd (omega arith)
-  flagged (Data p) e h = absurd (omega arith)
-  flagged (Check p) e h = absurd (omega arith)
-  flagged Even e h = by-verdict Even e
-  flagged Odd e h = by-verdict Odd e
-  flagged Stray e h = by-verdict Stray e
+recovered-from-bad code a u w hu c hw bad right =
+    let x = of-any.recovered-from-bad (narrow code) (accepted code a) u w hu (clean code a u c) hw bad right in
+    (λ alike. back code a w bad u (x .0 alike), λ few q alike. back code a w bad u (x .1 few q alike))
 
 pub recovered-as-read : demands.RecoveredAsRead
-recovered-as-read code a w fits =
-    let v = answered code a w fits .verdict in (
-      λ h. back code a w fits (verdictAt code a w) refl (omega (arith, h, v)),
-      λ h. flagged code a w fits (verdictAt code a w) refl (omega (arith, h, v)),
+recovered-as-read code a w fit =
+    let x = of-any.recovered-as-read (narrow code) (accepted code a) w fit in
+    let v = verdict-is code a w in (
+      λ h.
+          recover-is code a w _
+          ∙ ap recoveredBy (x .0 (omega arith))
+          ∙ sym (ap (λ (r : ReadWord). record { number = 0; told = 0; «data» = r .«data»; check = r .check }) (read-is code a w)),
+      λ h. recover-is code a w _ ∙ ap recoveredBy (x .1 (omega arith)),
     )
 
--- the same members, the same answers of `stands`
-same-stands : (bad other : List ℕ) → ((p : ℕ) → List·Memᴰ p bad ↔ List·Memᴰ p other) → (p : ℕ) → stands p bad ≡ stands p other
-same-stands bad other h p = go (stands p bad) (stands p other) refl refl
-  where
-    go : (x y : Bool) → stands p bad ≡ x → stands p other ≡ y → x ≡ y
-    go true true e f = refl
-    go true false e f = absurd (true≢false (sym (in-stands p other (h p .0 (stands-in p bad e))) ∙ f))
-    go false true e f = absurd (true≢false (sym (in-stands p bad (h p .1 (stands-in p other f))) ∙ e))
-    go false false e f = refl
-
 pub recovered-any-order : demands.RecoveredAnyOrder
-recovered-any-order code a w fits bad other right right′ many same =
-    recover-reached code a w fits bad right
-    ∙ ap answerTo (any-order (allRows (code .r)) (sound-of code a) w (inside code a w fits) bad other (right-is code a w fits bad right)
-    (right-is code a w fits other right′) (same-stands bad other same) many)
-    ∙ sym (recover-reached code a w fits other right′)
+recovered-any-order code a w fit bad other right right′ many same =
+    recover-is code a w bad
+    ∙ ap recoveredBy (of-any.recovered-any-order (narrow code) (accepted code a) w fit bad other right right′ many same)
+    ∙ sym (recover-is code a w other)
 
 -- ---- the finder
 
-module _ (code : Code) (a : Accepted code) (x y : ℕ) (hx : Unstrayed code x) (hy : Unstrayed code y) where
-  abbrev agreed : ℕ
-  agreed = agreeing (placesOf code) x y
-
-  find-is : findBad code x y ≡ badPlacesBy (record { number = 0; told = 0; word = inParts (code .k) agreed })
-  find-is =
-      let k = code .k in
-      let cs = matrixOf code in
-      ap₂ (λ (u v : Word). badPlacesBy (findOf (openedOf code) u v)) (parts-are code a x) (parts-are code a y)
-      ∙ ap badPlacesBy (finding-is code a (inParts k x) (inParts k y)
-      ∙ find-done cs k (inParts k x) (inParts k y) (whole code a x hx) (whole code a y hy))
-      ∙ ap (λ (w : ℕ). badPlacesBy (record { number = 0; told = 0; word = inParts k w }))
-      (ap₂ (agreeing (length cs)) (number-of-parts k x) (number-of-parts k y) ∙ ap (λ (n : ℕ). agreeing n x y) (places-length code a))
-
-  found-is : foundIn code x y ≡ agreed
-  found-is =
-      ap₂ (wordOf (code .k)) (ap (λ (b : BadPlaces). b .«data») find-is ∙ low-is code a agreed) (ap (λ (b : BadPlaces). b .check) find-is)
-      ∙ word-of-parts (code .k) agreed
-
--- a stray bit in either read
-module _ (code : Code) (a : Accepted code) (low high low′ high′ : ℕ) where
-  abbrev first : Word
-  first = wordWith low high
-
-  abbrev second : Word
-  second = wordWith low′ high′
-
-  stray-here : (u v : ℕ) → (2 ^ code .k ≤ u) ⊎ (2 ^ code .r ≤ v) → strayIn (length (matrixOf code)) (code .k) (wordWith u v) ≡ true
-  stray-here u v h = stray-is code a u v ∙ strayed code a u v h
-
-  second-stray : (b : Bool) → strayIn (length (matrixOf code)) (code .k) first ≡ b
-      → strayIn (length (matrixOf code)) (code .k) second ≡ true → findIn (matrixOf code) (code .k) first second ≡ refusedFound (only 7)
-  second-stray true e f = find-first (matrixOf code) (code .k) first second e
-  second-stray false e f = find-second (matrixOf code) (code .k) first second e f
-
-  either-stray : ((2 ^ code .k ≤ low) ⊎ (2 ^ code .r ≤ high)) ⊎ ((2 ^ code .k ≤ low′) ⊎ (2 ^ code .r ≤ high′))
-      → findIn (matrixOf code) (code .k) first second ≡ refusedFound (only 7)
-  either-stray =
-      ⊎-elim
-      (λ h. find-first (matrixOf code) (code .k) first second (stray-here low high h))
-      (λ h. second-stray (strayIn (length (matrixOf code)) (code .k) first) refl (stray-here low′ high′ h))
-
-  -- two reads in their parts, each as one number
-  find-parts : low < 2 ^ code .k → low′ < 2 ^ code .k
-      → badPlacesOf code low high low′ high′ ≡ findBad code (wordOf (code .k) low high) (wordOf (code .k) low′ high′)
-  find-parts l l′ =
-      let k = code .k in
-      let w = wordOf k low high in
-      sym (ap₂ (λ (x y : ℕ). badPlacesOf code x y low′ high′) (data-of-word k low high l) (check-of-word k low high l))
-      ∙ sym (ap₂ (badPlacesOf code (dataOf k w) (checkOf k w)) (data-of-word k low′ high′ l′) (check-of-word k low′ high′ l′))
-
 pub finding-refuses : demands.FindingRefuses
-finding-refuses code low high low′ high′ = (
-  λ h. ap (λ s. badPlacesBy (findAs s (openedOf code) (wordWith low high) (wordWith low′ high′))) (standing-refused code h),
-  λ a h. ap badPlacesBy (finding-is code a (wordWith low high) (wordWith low′ high′) ∙ either-stray code a low high low′ high′ h),
-  λ a l h l′ h′.
-      let e =
-      find-parts code a low high low′ high′ l l′
-      ∙ find-is code a (wordOf (code .k) low high) (wordOf (code .k) low′ high′) (whole-fits code a low l high h)
-      (whole-fits code a low′ l′ high′ h′) in
-      (ap (λ (b : BadPlaces). b .number) e, ap (λ (b : BadPlaces). b .told) e),
-)
+finding-refuses code low high low′ high′ =
+    let x = of-any.finding-refuses (narrow code) (wordWith low high) (wordWith low′ high′) in (
+      λ h. ap badPlacesBy (x .0 h),
+      λ a h.
+          ap badPlacesBy (x .1 (accepted code a)
+          (⊎-elim (λ y. inl (strays code low high y)) (λ y. inr (strays code low′ high′ y)) h)),
+      λ a l h l′ h′. x .2 (accepted code a) (fits code a low high l h) (fits code a low′ high′ l′ h′),
+    )
+
+-- the word of ones in the answer is the same
+found-same : (code : Code) (acc : Accepted code) (a b : ℕ) → Unstrayed code a → Unstrayed code b
+    → foundIn code a b ≡ any.foundIn (narrow code) a b
+found-same code acc a b ha hb =
+    let k = code .k in
+    let given = narrow code in
+    let both = accepted code acc in
+    let w = agreeing (any.placesOf given) a b in
+    let e : findOf (openedOf code) (wordWith _ _) (wordWith _ _) ≡ record { number = 0; told = 0; word = _ } =
+    ap₂ (findOf (openedOf code)) (parts-are code acc a) (parts-are code acc b) ∙ of-any.find-is given both a b ha hb in
+    ap₂ (wordOf k) (ap (λ (f : Found). f .word .low) e ∙ low-is code acc w) (ap (λ (f : Found). f .word .check) e)
+    ∙ word-of-parts k w
+    ∙ sym (of-any.found-is given both a b ha hb)
 
 pub found-exactly : demands.FoundExactly
 found-exactly code acc a b ha hb p =
-    let e = found-is code acc a b ha hb in
-    let f = finding.found-exactly (placesOf code) a b ha hb p in
+    let e = found-same code acc a b ha hb in
+    let f = of-any.found-exactly (narrow code) (accepted code acc) a b ha hb p in
     (λ x. f .0 (sym (ap (λ (w : ℕ). bitAt w p) e) ∙ x), λ x. ap (λ (w : ℕ). bitAt w p) e ∙ f .1 x)
 
 pub stuck-found : demands.StuckFound
-stuck-found code acc stuck held w a b fits x y =
-    found-is code acc a b (x .fits) (y .fits) ∙ finding.stuck-found (placesOf code) stuck held w a b fits x y
+stuck-found code acc stuck held w a b fit x y =
+    found-same code acc a b (x .fits) (y .fits) ∙ of-any.stuck-found (narrow code) (accepted code acc) stuck held w a b fit x y
 
 pub found-recovered : demands.FoundRecovered
-found-recovered code acc stuck held w a b fits x y u v hu clean z bad few once found =
-    let e = stuck-found code acc stuck held w a b fits x y in
-    recovered-from-bad code acc u v hu clean (z .fits) bad right .0 (λ p l h. sym (z .keeps p l (kept p h e)))
-  where
-    right : ¬ (WrongPlaces (placesOf code) bad)
-    right =
-        ⊎-elim (λ h. omega arith)
-        (⊎-elim once
-        (λ i.
-        let m = found (getD bad (i .0) 0) .0 (stands-in (getD bad (i .0) 0) bad (at-stands bad (i .0) (i .1))) in
-        omega (arith, found-exactly code acc a b (x .fits) (y .fits) (getD bad (i .0) 0) .0 m .0, i .2)))
-
-    kept : (p : ℕ) → ¬ (List·Memᴰ p bad) → foundIn code a b ≡ stuck → bitAt stuck p ≡ 0
-    kept p h e =
-        let off : bitAt stuck p ≢ 1 = λ one. h (found p .1 (ap (λ (s : ℕ). bitAt s p) e ∙ one)) in
-        omega arith
+found-recovered code acc stuck held w a b fit x y u v hu c z bad few once found =
+    back code acc v bad u
+    (of-any.found-recovered (narrow code) (accepted code acc) stuck held w a b fit x y u v hu (clean code acc u c) z bad few once
+    (subst (λ (f : ℕ). (p : ℕ) → List·Memᴰ p bad ↔ (bitAt f p ≡ 1)) (found-same code acc a b (x .fits) (y .fits)) found))

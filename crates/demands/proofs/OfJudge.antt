@@ -1,80 +1,14 @@
--- The demands on the judge, proved from the layers' laws. Assumes nothing.
-use mathlib.Core.Path.{_≡_, sym, ap, _∙_}
-use mathlib.Core.Logic.{_↔_}
-use Prim.Native.Nat.{_+_}
-use native.Mathlib.Omega.{arith}
-use lib.ListN.{length, take}
-use lib.Seq.{length-take-le}
-use Rattle.code.specs.declared.Code.{Code}
-use Rattle.code.specs.declared.Refusal.{Refusal}
-use Rattle.judge.specs.declared.Judged.{Judged}
-use Rattle.judge.specs.declared.Judged.the-variants.{Accepted, NoData, NoChecks, TooWide, EvenColumn, SingleOne, Repeated, Leftover}
-use Rattle.code.specs.Rule.{matrixOf}
-use Rattle.judge.specs.Rule.{SaysOfCode}
-use Rattle.code.specs.Opened.{standingOf, judgementBy}
-use Rattle.code.proofs.Numbers.{judgedBy, known-by}
-use Rattle.judge.proofs.Rule.{fine-of}
-use Rattle.judge.proofs.Table.{judge-exactly, judge-rule}
-use Rattle.columns.proofs.Singles.{length-joined}
-use Rattle.desk.specs.Answers.{judgementOf}
+-- The demands on the judge: the promises of the ten-byte edition. Assumes nothing.
+use Rattle.editions.proofs.OfJudge as of-any
 use Rattle.demands.specs.Demands as demands
-use Rattle.demands.proofs.Codes.{judgeOf, judgement-is, judged-of, rule-of-code, data-length}
+use Rattle.demands.specs.Editions.{narrow}
+use Rattle.demands.proofs.Narrow.{handed, accepted}
 
 pub accepted-exactly : demands.AcceptedExactly
-accepted-exactly code handed =
-    let columns = take (code .k) (code .columns) in
-    let n : length (matrixOf code) ≡ length columns + code .r = length-joined columns (code .r) in (
-      λ e.
-          let s = judge-rule 64 (code .columns) (code .k) (code .r) .0 (judged-of code e) in
-          let few = s .limits .sized .few in
-          let l = length-take-le (code .k) (code .columns) (omega arith) in (
-            s .limits,
-            λ i h. s .rule .below i (omega arith),
-            λ p q hp hq. s .rule .good .apart p q (omega arith) (omega arith),
-            λ p h. s .rule .good .each-odd p (omega arith),
-            λ i past h. s .empty i past (omega arith),
-          ),
-      λ s.
-          let few = s .0 .sized .few in
-          let l = length-take-le (code .k) (code .columns) (omega arith) in
-          ap (λ (f : Refusal). f .number) (judgement-is code
-          ∙ ap (λ v. judgementBy (standingOf v)) (judge-rule 64 (code .columns) (code .k) (code .r) .1 (record {
-            limits = s .0;
-            rule = record {
-              below = λ i h. s .1 i (omega arith);
-              good = record { apart = λ p q hp hq. s .2 p q (omega arith) (omega arith); each-odd = λ p h. s .3 p (omega arith) };
-            };
-            empty = λ i past h. s .4 i past (omega arith);
-          }))),
-    )
+accepted-exactly code h = of-any.accepted-exactly (narrow code) (handed code h)
 
--- an odd number of ones that is not one
 pub three-ones : demands.ThreeOnes
-three-ones code a i h =
-    let columns = take (code .k) (code .columns) in
-    let fine = fine-of columns (code .r) (rule-of-code code a) i (omega (arith, data-length code a)) in
-    let odd = fine .odd in
-    let many = fine .many in
-    omega arith
-
--- each answer is known by its number and what it tells
-answer-exactly : (code : Code) (v : Judged)
-    → (judgementOf code ≡ judgementBy (standingOf v)) ↔ SaysOfCode 64 (code .columns) (code .k) (code .r) v
-answer-exactly code v =
-    let x = judge-exactly 64 (code .columns) (code .k) (code .r) v in (
-      λ e. x .0 (sym (known-by (judgeOf code))
-          ∙ ap (λ (f : Refusal). judgedBy (f .number) (f .told)) (sym (judgement-is code) ∙ e) ∙ known-by v),
-      λ s. judgement-is code ∙ ap (λ u. judgementBy (standingOf u)) (x .1 s),
-    )
+three-ones code a = of-any.three-ones (narrow code) (accepted code a)
 
 pub judged-exactly : demands.JudgedExactly
-judged-exactly code = (
-  answer-exactly code Accepted,
-  answer-exactly code NoData,
-  answer-exactly code NoChecks,
-  λ i. answer-exactly code (TooWide i),
-  λ i. answer-exactly code (EvenColumn i),
-  λ i. answer-exactly code (SingleOne i),
-  λ i. answer-exactly code (Repeated i),
-  λ i. answer-exactly code (Leftover i),
-)
+judged-exactly code = of-any.judged-exactly (narrow code)

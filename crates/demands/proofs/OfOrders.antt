@@ -1,154 +1,33 @@
--- The demands on any order of passes, proved from crate orders' laws. Assumes nothing.
-use Prim.{tt}
-use mathlib.Core.Path.{_≡_, sym, subst, _∙_}
+-- The demands on any order of passes: the promises of the ten-byte edition. Assumes nothing.
 use mathlib.Core.Logic.{inl}
-use mathlib.Core.List.{List, [], _∷_, List·Memᴰ}
-use Prim.Native.Nat.{ℕ, _+_, _^_, _≤_, _<_}
-use native.Mathlib.Omega.{arith}
-use Rattle.code.specs.declared.Code.{Code}
-use Rattle.code.specs.Opened.{openedOf}
-use Rattle.sound.proofs.Hsiao.{sound-code}
-use Rattle.record.specs.Layout.{dataSize}
-use Rattle.at_record.specs.Outcome as outcome
-use Rattle.at_record.proofs.Outcomes.{kept}
-use Rattle.asked.specs.Pass.{State, passOver}
-use Rattle.pass.specs.Pass.{readerOf}
-use Rattle.asked.specs.Asked.{Image, Run, GoesOn}
-use Rattle.orders.specs.Lists.{Each, EachTwo, Rearranged, swap}
-use Rattle.orders.specs.Orders.{Ends, neededByAll, passesAfter, AllDone, LeftClean, Unmended, entriesSince}
-use Rattle.orders.proofs.Lists.{same-order}
+use Rattle.record.specs.Bytes.{numberOf}
 use Rattle.orders.proofs.Exactly.{apart-exactly}
-use Rattle.orders.proofs.Order as order
-use Rattle.orders.proofs.Shared as shared
-use Rattle.orders.proofs.Steps.{later-goes-on}
-use Rattle.desk.specs.Answers.{judgementOf}
-use Rattle.demands.specs.Definitions as words
-use Rattle.demands.specs.Definitions.{recordOf, verdictOf}
-use Rattle.demands.specs.Orders.{RunsApart, InSomeOrder, asItWas, afterAll}
+use Rattle.editions.proofs.Codes.{limits-of}
+use Rattle.editions.proofs.OfOrders as of-any
+use Rattle.editions.proofs.OfPasses.{done-number}
+use Rattle.demands.specs.Definitions.{Accepted}
 use Rattle.demands.specs.Demands as demands
-use Rattle.demands.proofs.Codes.{standing-accepted}
-use Rattle.demands.proofs.OfPasses.{done-number, done-standing, verdict-same, finding-verdict, syndrome-same, place-same, laid, held, four-bytes, narrow}
+use Rattle.demands.specs.Editions.{narrow}
+use Rattle.demands.proofs.Narrow.{handed, accepted}
 
 pub apart-by-ends : demands.ApartExactly
 apart-by-ends = apart-exactly
 
--- ---- runs apart
-
 pub order-done : demands.OrderDone
-order-done code c runs s apart passes x =
-    let o = openedOf code in
-    let t = standing-accepted code (c .number) in
-    let n = narrow code (c .number) in (
-      order.none-refused o dataSize t n runs s apart passes x,
-      order.used-after o dataSize t n runs s apart passes x,
-      order.used-stay o dataSize t n runs s apart passes x,
-    )
+order-done code a = of-any.order-done (narrow code) (accepted code a)
 
 pub any-order : demands.AnyOrder
-any-order code c runs s apart passes others x y =
-    let o = openedOf code in
-    let t = standing-accepted code (c .number) in
-    let n = narrow code (c .number) in (
-      order.same-image o dataSize t n runs s apart passes others x y,
-      order.same-entries o dataSize t n runs s apart passes others x y,
-    )
+any-order code a = of-any.any-order (narrow code) (accepted code a)
 
 pub order-tallies : demands.OrderTallies
-order-tallies code c runs s apart passes others x y =
-    let t = standing-accepted code (c .number) in
-    order.same-tallies (openedOf code) dataSize t (narrow code (c .number)) runs s apart passes others x y
-
--- two runs, the first of which ends where the second starts or before
-two-apart : (code : Code) (s : State) (r t : Ends) → Image dataSize (s .image) → Run dataSize (s .image) (r .start) (r .end)
-    → Run dataSize (s .image) (t .start) (t .end) → r .end ≤ t .start
-    → s .used + (words.needed code (s .image) (r .start) (r .end) + words.needed code (s .image) (t .start) (t .end))
-    ≤ words.room (s .journal)
-    → RunsApart code (r ∷ t ∷ []) s
-unfolding Each EachTwo neededByAll
-two-apart code s r t i x y clear room =
-    record {
-      records = i;
-      within = (x, (y, tt));
-      apart = ((λ j u v. omega (arith, u .1, v .0, clear), tt), (tt, tt));
-      room = omega arith;
-    }
-
--- two passes in a row, the second with the later stamp, are an order of their runs
-two-in-order : (s : State) (r t : Ends) (runs : List Ends) (early late : ℕ) → Rearranged runs (r ∷ t ∷ []) → early ≤ late → late < 2 ^ 32
-    → GoesOn dataSize early (s .journal) (s .used)
-    → InSomeOrder runs s (passOver (r .start) (r .end) early ∷ passOver (t .start) (t .end) late ∷ [])
-unfolding Each EachTwo
-two-in-order s r t runs early late h up small on =
-    record {
-      rearranged = h;
-      stamps =
-          record {
-            small = (four-bytes early (omega arith), (four-bytes late small, tt));
-            goes-on = (on, (later-goes-on dataSize early late (s .journal) (s .used) up on, tt));
-            rises = ((up, tt), (tt, tt));
-          };
-    }
+order-tallies code a = of-any.order-tallies (narrow code) (accepted code a)
 
 pub two-clerks : demands.TwoClerks
-unfolding passesAfter AllDone
-two-clerks code c a b k e early late s x y clear up small room =
-    let r : Ends = record { start = a; end = b } in
-    let t : Ends = record { start = k; end = e } in
-    let apart = two-apart code s r t (x .records) (x .run) (y .run) clear room in
-    let one = two-in-order s r t (r ∷ t ∷ []) early late (same-order (r ∷ t ∷ [])) up small (x .goes-on) in
-    let other = two-in-order s t r (r ∷ t ∷ []) early late swap up small (x .goes-on) in
-    let first = order-done code c (r ∷ t ∷ []) s apart (passOver a b early ∷ passOver k e late ∷ []) one .0 in
-    let second = order-done code c (r ∷ t ∷ []) s apart (passOver k e early ∷ passOver a b late ∷ []) other .0 in
-    let same =
-    any-order code c (r ∷ t ∷ []) s apart (passOver a b early ∷ passOver k e late ∷ []) (passOver k e early ∷ passOver a b late ∷ [])
-    one other in
-    (first .0, first .1 .0, second .0, second .1 .0, same .0, same .1)
-
--- ---- a record that two runs share
-
--- its entry where it is left as it was read
-entry-kept : (code : Code) (e : judgementOf code .number ≡ 0) (image : List ℕ) (i stamp : ℕ) → Unmended (verdictOf code image i)
-    → outcome.entryOf (readerOf (openedOf code) dataSize) stamp i (recordOf image i) ≡ asItWas code image i stamp
-unfolding outcome.entryOf outcome.leftOf
-entry-kept code e image i stamp h =
-    let f = readerOf (openedOf code) dataSize in
-    let v = verdict-same code e image i in
-    let same = kept f (recordOf image i) (λ z. omega (arith, h, v, z)) (λ z. omega (arith, h, v, z)) in
-    λ j. record {
-      stamp = stamp;
-      number = i;
-      verdict = (finding-verdict code e image i ∙ v) j;
-      place = place-same code e image i j;
-      syndrome = syndrome-same code e image i j;
-      before = recordOf image i;
-      after = same j;
-    }
+two-clerks code a = of-any.two-clerks (narrow code) (accepted code a)
 
 pub shared-record : demands.SharedRecord
-shared-record code handed first last between s small tiny done again i in-first in-last =
-    let o = openedOf code in
-    let f = readerOf o dataSize in
-    let e = done-number code first s done in
-    let t = done-standing code first s done in
-    let l = laid code handed first s done in
-    let h = held code handed first s done in
-    let sound = sound-code code handed in
-    let n = narrow code e in
-    let later = afterAll code between (words.stateAfter code first s) in
-    let v = verdict-same code e (s .image) i in
-    let late = four-bytes (last .stamp) tiny in (
-      λ clean.
-          let clean-here : LeftClean (outcome.verdictOf f (recordOf (s .image) i)) = omega (arith, clean, v) in (
-            sym (verdict-same code e (later .image) i)
-                ∙ shared.mended-clean o dataSize sound (l .0) h t first last between s (inl (l .1)) done i in-first clean-here,
-            shared.mended-not-entered o dataSize sound (l .0) h t first last between s (inl (l .1)) done i in-first n again late clean-here,
-          ),
-      λ wrong.
-          let said = entry-kept code e (s .image) i in
-          let both =
-          shared.unmended-again o dataSize sound (l .0) h t first last between s (inl (l .1)) done i in-first n again late
-          (omega (arith, wrong, v)) (four-bytes (first .stamp) small) in-last in (
-            subst (λ x. List·Memᴰ x (entriesSince dataSize s (words.stateAfter code first s))) (said (first .stamp) wrong) (both .0),
-            subst (λ x. List·Memᴰ x (entriesSince dataSize later (words.stateAfter code last later))) (said (last .stamp) wrong) (both .1),
-          ),
-    )
+unfolding numberOf
+shared-record code h first last between s small tiny done =
+    let a : Accepted code = record { handed = h; number = done-number (narrow code) first s done } in
+    of-any.shared-record (narrow code) (handed code h) first last between s (inl (limits-of (narrow code) (accepted code a) .sized .few))
+    small tiny done

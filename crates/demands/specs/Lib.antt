@@ -6,3 +6,4 @@ pub mod Bytes
 pub mod PutBack
 pub mod Bad
 pub mod Demands
+pub mod Editions

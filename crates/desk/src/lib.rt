@@ -24,6 +24,9 @@ use wanted::CheckBits;
 use word::Word;
 use writing::CheckWord;
 
+// The wide edition.
+pub mod wide;
+
 // The version of what a caller links: raised by each landing that changes a struct, a size or a meaning.
 const VERSION: usize = 5;
 

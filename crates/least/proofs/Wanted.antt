@@ -17,7 +17,7 @@ room-more k b (suc d) h =
     rw e (omega (arith, room-more k b d h, pow-suc 2 (b + d), pow-pos (b + d)))
 
 -- NO ROOM exactly where r is below the check bits wanted
-pub no-room-below : (k r : ℕ) → 1 ≤ k → k ≤ 64 → 3 ≤ r → (2 ^ (r - 1) - r < k) ↔ (r < bandOf k)
+pub no-room-below : (k r : ℕ) → 1 ≤ k → k ≤ 128 → 3 ≤ r → (2 ^ (r - 1) - r < k) ↔ (r < bandOf k)
 no-room-below k r some few least = (
   λ h.
       ⊎-elim

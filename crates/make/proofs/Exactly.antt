@@ -11,9 +11,8 @@ use lib.Dec.{eqb, ltb}
 use lib.ListN.{replicate}
 use Rattle.parity.proofs.Ones.{below-or-not}
 use Rattle.judge.specs.Rule.{Sized, Limits}
-use Rattle.make.specs.declared.Made.{Made}
 use Rattle.order.specs.Order.{passingFrom, byOnes}
-use Rattle.make.specs.Made.{makeNumber, placesBy, makingBy, makeOf}
+use Rattle.make.specs.Made.{makeNumber, placesBy, makingIn, makingBy}
 
 -- the ends of k and r, and of the room, written out
 pub ends :
@@ -23,6 +22,11 @@ pub ends :
     × (makeNumber 64 1 3 ≡ 0) × (makeNumber 64 11 5 ≡ 0) × (makeNumber 64 57 7 ≡ 0) × (makeNumber 64 64 16 ≡ 0)
 unfolding makeNumber
 ends = (refl, refl, refl, refl, refl, refl, refl, refl, refl, refl, refl)
+
+pub wide-ends :
+    (makeNumber 128 129 9 ≡ 1) × (makeNumber 128 121 8 ≡ 15) × (makeNumber 128 120 8 ≡ 0) × (makeNumber 128 128 9 ≡ 0)
+unfolding makeNumber
+wide-ends = (refl, refl, refl, refl)
 
 module _ (most k r : ℕ) where
   pub no-data : (k ≡ 0) ⊎ (most < k) → makeNumber most k r ≡ 1
@@ -121,20 +125,19 @@ pub refused-places : (n most k r : ℕ) → n ≢ 0 → placesBy n most k r ≡ 
 refused-places zero most k r h = absurd (h refl)
 refused-places (suc n) most k r h = refl
 
-module _ (k r n : ℕ) (places : List ℕ) (e : n ≡ makeNumber 64 k r) (l : places ≡ placesBy n 64 k r) where
-  pub refused-made : n ≢ 0 → _≡_ {A = Made} (record { number = n; code = record { columns = places; k = 0; r = 0 } }) (makeOf k r)
-  refused-made h = go n l h ∙ ap (λ (m : ℕ). makingBy m k r) e
+module _ {A : Type 0} (put : ℕ → List ℕ → ℕ → ℕ → A) (most k r n : ℕ) (places : List ℕ)
+    (e : n ≡ makeNumber most k r) (l : places ≡ placesBy n most k r) where
+  pub refused-made : n ≢ 0 → put n places 0 0 ≡ makingIn put most (makeNumber most k r) k r
+  refused-made h = go n l h ∙ ap (λ (m : ℕ). makingIn put most m k r) e
     where
-      go : (n : ℕ) → places ≡ placesBy n 64 k r → n ≢ 0
-          → _≡_ {A = Made} (record { number = n; code = record { columns = places; k = 0; r = 0 } }) (makingBy n k r)
+      go : (n : ℕ) → places ≡ placesBy n most k r → n ≢ 0 → put n places 0 0 ≡ makingIn put most n k r
       go zero l h = absurd (h refl)
-      go (suc n) l h = ap (λ (p : List ℕ). record { number = suc n; code = record { columns = p; k = 0; r = 0 } }) l
+      go (suc n) l h = ap (λ (p : List ℕ). put (suc n) p 0 0) l
 
-  pub made-made : n ≡ 0 → _≡_ {A = Made} (record { number = n; code = record { columns = places; k = k; r = r } }) (makeOf k r)
+  pub made-made : n ≡ 0 → put n places k r ≡ makingIn put most (makeNumber most k r) k r
   made-made z =
-      ap₂ (λ (m : ℕ) (p : List ℕ). record { number = m; code = record { columns = p; k = k; r = r } }) z
-      (l ∙ ap (λ (m : ℕ). placesBy m 64 k r) z)
-      ∙ ap (λ (m : ℕ). makingBy m k r) (sym z ∙ e)
+      ap₂ (λ (m : ℕ) (p : List ℕ). put m p k r) z (l ∙ ap (λ (m : ℕ). placesBy m most k r) z)
+      ∙ ap (λ (m : ℕ). makingIn put most m k r) (sym z ∙ e)
 
 -- ---- written out
 

@@ -5,6 +5,7 @@ use Prim.Native.Nat.{ℕ, zero, suc, _-_, _^_}
 use lib.Dec.{eqb, ltb}
 use lib.ListN.{length, replicate}
 use Rattle.make.specs.declared.Made.{Made}
+use Rattle.make.specs.declared.WideMade.{WideMade}
 use Rattle.order.specs.Order.{madeColumns}
 
 -- the list, and zeros up to `most` places
@@ -23,11 +24,24 @@ abbrev pub placesBy : ℕ → ℕ → ℕ → ℕ → List ℕ
 placesBy zero most k r = paddedTo most (madeColumns k r)
 placesBy (suc n) most k r = replicate most 0
 
--- the answer: the number, and the code; a refusal hands back a code of k 0 and r 0
-abbrev pub makingBy : ℕ → ℕ → ℕ → Made
-makingBy zero k r = record { number = 0; code = record { columns = placesBy 0 64 k r; k = k; r = r } }
-makingBy (suc n) k r = record { number = suc n; code = record { columns = placesBy (suc n) 64 k r; k = 0; r = 0 } }
+-- the answer of any edition, put together by `put` from number, places, k and r: a refusal hands back a code of k 0 and r 0
+abbrev pub makingIn : {A : Type 0} → (ℕ → List ℕ → ℕ → ℕ → A) → ℕ → ℕ → ℕ → ℕ → A
+makingIn put most zero k r = put 0 (placesBy 0 most k r) k r
+makingIn put most (suc n) k r = put (suc n) (placesBy (suc n) most k r) 0 0
 
 -- as codes are handed about, in 64 places
+abbrev pub madeWith : ℕ → List ℕ → ℕ → ℕ → Made
+madeWith number columns k r = record { number = number; code = record { columns = columns; k = k; r = r } }
+
+abbrev pub makingBy : ℕ → ℕ → ℕ → Made
+makingBy n k r = makingIn madeWith 64 n k r
+
 abbrev pub makeOf : ℕ → ℕ → Made
 makeOf k r = makingBy (makeNumber 64 k r) k r
+
+-- and in 128
+abbrev pub wideMadeWith : ℕ → List ℕ → ℕ → ℕ → WideMade
+wideMadeWith number columns k r = record { number = number; code = record { columns = columns; k = k; r = r } }
+
+abbrev pub makeWide : ℕ → ℕ → WideMade
+makeWide k r = makingIn wideMadeWith 128 (makeNumber 128 k r) k r

@@ -1,8 +1,9 @@
 // The maker: a code from k and r alone, whose columns have as few ones as can be.
 ghost use mathlib.Core.Path.{_≡_};
 ghost use lib.ListN.{length, replicate};
-ghost use Rattle.make.specs.Made.{makeNumber, placesBy, makeOf};
+ghost use Rattle.make.specs.Made.{makeNumber, placesBy, makeOf, makeWide};
 use code::Code;
+use code::WideCode;
 
 // 1, 2, then 15 where there are fewer than k columns.
 fn make_number(most: usize, k: usize, r: usize) -> usize
@@ -65,4 +66,29 @@ pub fn make(k: usize, r: usize) -> Made
     }
     let code = Code { columns, k, r };
     Made { number, code }
+}
+
+// The same in the wide edition.
+#[repr(C)]
+pub struct WideMade {
+    pub number: usize,
+    pub code: WideCode,
+}
+
+// A code of 128 places.
+pub fn make_wide(k: usize, r: usize) -> WideMade
+    ensures { λ a. ⌜ a ≡ makeWide k r ⌝ }
+{
+    let mut columns = [0u16; 128];
+    let number = make_in(&mut columns, k, r);
+    if number != 0 {
+        let none = WideCode {
+            columns,
+            k: 0,
+            r: 0,
+        };
+        return WideMade { number, code: none };
+    }
+    let code = WideCode { columns, k, r };
+    WideMade { number, code }
 }

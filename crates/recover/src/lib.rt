@@ -9,6 +9,7 @@ use reach::Reached;
 use word::Word;
 
 // The answer: the code word, 0 where it is refused.
+#[repr(C)]
 pub struct Recovery {
     pub number: usize,
     pub told: usize,

@@ -13,12 +13,13 @@ use Rattle.columns.specs.Mix.{column, singles}
 use Rattle.columns.specs.Sound.{Reaches, Sound}
 use Rattle.columns.proofs.Singles.{length-joined, length-singles, single-at}
 use Rattle.code.specs.declared.Code.{Code}
+use Rattle.code.specs.declared.WideCode.{WideCode}
 use Rattle.code.specs.declared.Standing.{Standing}
 use Rattle.code.specs.declared.Standing.the-variants as standing
 use Rattle.judge.specs.declared.Judged.the-variants.{Accepted}
 use Rattle.judge.specs.Judge.{judgeIn}
 use Rattle.judge.specs.Rule.{matrix, Hsiao}
-use Rattle.code.specs.Opened.{standingOf, openedBy, openedIn, openedOf, SoundOpened}
+use Rattle.code.specs.Opened.{standingOf, openedBy, openedIn, openedOf, openedWide, SoundOpened}
 use Rattle.code.proofs.Laid.{accepted-of-standing, refused-no-acceptance}
 use Rattle.code.proofs.Laying.{laid-columns}
 use Rattle.judge.proofs.Rule.{matrix-below}
@@ -86,3 +87,6 @@ sound-in most columns k r l =
 
 pub sound-code : (code : Code) → length (code .columns) ≡ 64 → SoundOpened (openedOf code)
 sound-code code l = sound-in 64 (code .columns) (code .k) (code .r) l
+
+pub sound-wide : (code : WideCode) → length (code .columns) ≡ 128 → SoundOpened (openedWide code)
+sound-wide code l = sound-in 128 (code .columns) (code .k) (code .r) l

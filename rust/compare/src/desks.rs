@@ -1,9 +1,11 @@
 //! The linked desk as the second program's questions have it: by the archive's own numbers, and through the wrapper.
 
 use crate::program;
-use desk::{ffi, Word};
+use desk::{ffi, WideWord, Word};
 use second::{Balanced, CardsChecked, Code, Desk, Explained, Judged, Passed, Reading, Refusal, Wanted, Written};
-use second::{ByteRead, ByteWritten, Found, Limit, Made, Pass, PutBack, Recovered, Sheeted, Station};
+use second::{
+    ByteRead, ByteWritten, Found, Limit, Made, Pass, PutBack, Questions, Recovered, Sheeted, Station, WideCode,
+};
 
 /// The same code for the linked desk.
 fn linked(code: &Code) -> desk::Code {
@@ -249,6 +251,182 @@ impl Desk for Wrapper {
     }
 }
 
+/// The same code for the linked desk, in the wide edition.
+fn linked_wide(code: &WideCode) -> desk::WideCode {
+    desk::WideCode { columns: code.columns, k: code.k, r: code.r }
+}
+
+/// The same code for the second program, in the wide edition.
+fn unlinked_wide(code: desk::WideCode) -> WideCode {
+    WideCode { columns: code.columns, k: code.k, r: code.r }
+}
+
+/// A word in two halves.
+fn halved(data: u128, check: u16) -> WideWord {
+    WideWord { low: data as u64, high: (data >> 64) as u64, check }
+}
+
+impl Questions<WideCode> for Archive {
+    fn name(&self) -> &'static str {
+        "archive"
+    }
+
+    fn wanted(&self, k: usize) -> Wanted {
+        let ffi::CheckBits { number, bits } = ffi::wide_check_bits(k);
+        Wanted { number, check_bits: bits }
+    }
+
+    fn judge(&self, code: &WideCode) -> Judged {
+        let ffi::Judgement { number, told } = ffi::wide_judge(&linked_wide(code));
+        Judged { number, told }
+    }
+
+    fn row_balance(&self, code: &WideCode) -> Balanced {
+        let ffi::RowBalance { number, told, rows } = ffi::wide_row_balance(&linked_wide(code));
+        Balanced { number, told, rows }
+    }
+
+    fn write(&self, code: &WideCode, data: u128) -> Written {
+        let ffi::CheckWord { number, told, check } =
+            ffi::wide_write(&linked_wide(code), data as u64, (data >> 64) as u64);
+        Written { number, told, check }
+    }
+
+    fn read(&self, code: &WideCode, data: u128, check: u16) -> Reading<u128> {
+        let ffi::WideReadWord { number, told, verdict, place, syndrome, word } =
+            ffi::wide_read(&linked_wide(code), halved(data, check));
+        let data = u128::from(word.low) | u128::from(word.high) << 64;
+        Reading { number, told, verdict, place, data, check: word.check, syndrome }
+    }
+
+    fn explain(&self, code: &WideCode, data: u128, check: u16, limit: usize, list: &mut [u8]) -> Explained {
+        let ffi::Listing { number, told, length } =
+            ffi::wide_explain(&linked_wide(code), halved(data, check), limit, list);
+        Explained { number, told, length }
+    }
+
+    fn card_check(&self, code: &WideCode, b: usize) -> CardsChecked {
+        let ffi::CardCheck { number, told, card, mask } = ffi::wide_cards(&linked_wide(code), b);
+        CardsChecked { number, told, card, mask }
+    }
+
+    fn pass(&self, code: &WideCode, image: &mut [u8], journal: &mut [u8], asked: &Pass) -> Passed {
+        let Pass { start, end, used, stamp } = *asked;
+        let answer = ffi::wide_pass(&linked_wide(code), image, start, end, journal, used, stamp);
+        let ffi::PassAnswer { number, told, used, tally } = answer;
+        Passed { number, told, used, tally: counts(tally) }
+    }
+
+    fn put_back(&self, image: &mut [u8], journal: &mut [u8], used: usize) -> PutBack {
+        let ffi::PutBack { number, told, count } = ffi::wide_put_back(image, journal, used);
+        PutBack { number, told, count }
+    }
+
+    fn make(&self, k: usize, r: usize) -> Made<WideCode> {
+        let ffi::WideMade { number, code } = ffi::wide_make(k, r);
+        Made { number, code: unlinked_wide(code) }
+    }
+
+    fn recover(&self, code: &WideCode, data: u128, check: u16, bad: &[usize]) -> Recovered<u128> {
+        let ffi::WideRecovered { number, told, word } = ffi::wide_recover(&linked_wide(code), halved(data, check), bad);
+        Recovered { number, told, data: word.into(), check: word.check }
+    }
+
+    fn find_bad(&self, code: &WideCode, first: (u128, u16), second: (u128, u16)) -> Found<u128> {
+        let (first, second) = (halved(first.0, first.1), halved(second.0, second.1));
+        let ffi::WideBadPlaces { number, told, word } = ffi::wide_find_bad(&linked_wide(code), first, second);
+        Found { number, told, data: word.into(), check: word.check }
+    }
+}
+
+impl Questions<WideCode> for Wrapper {
+    fn name(&self) -> &'static str {
+        "wrapper"
+    }
+
+    fn wanted(&self, k: usize) -> Wanted {
+        match desk::wide_check_bits_wanted(k) {
+            Ok(check_bits) => Wanted { number: 0, check_bits },
+            Err(refusal) => Wanted { number: refusal.number(), check_bits: refusal.told() },
+        }
+    }
+
+    fn judge(&self, code: &WideCode) -> Judged {
+        linked_wide(code).judge().map_or_else(|refusal| refused(refusal).into(), |()| Judged::default())
+    }
+
+    fn row_balance(&self, code: &WideCode) -> Balanced {
+        let done = |rows| Balanced { rows, ..Balanced::default() };
+        linked_wide(code).row_balance().map_or_else(|refusal| refused(refusal).into(), done)
+    }
+
+    fn write(&self, code: &WideCode, data: u128) -> Written {
+        let done = |check| Written { check, ..Written::default() };
+        linked_wide(code).write(data).map_or_else(|refusal| refused(refusal).into(), done)
+    }
+
+    fn read(&self, code: &WideCode, data: u128, check: u16) -> Reading<u128> {
+        let done = |reading: desk::Reading<WideWord>| Reading {
+            verdict: reading.verdict.number(),
+            place: reading.place.unwrap_or(255),
+            data: reading.word.into(),
+            check: reading.word.check,
+            syndrome: reading.syndrome,
+            ..Reading::default()
+        };
+        let answer = linked_wide(code).read(WideWord { check, ..data.into() });
+        answer.map_or_else(|refusal| refused(refusal).into(), done)
+    }
+
+    fn explain(&self, code: &WideCode, data: u128, check: u16, limit: usize, list: &mut [u8]) -> Explained {
+        let done = |length| Explained { length, ..Explained::default() };
+        let answer = linked_wide(code).explain_into(WideWord { check, ..data.into() }, limit, list);
+        answer.map_or_else(|refusal| refused(refusal).into(), done)
+    }
+
+    fn card_check(&self, code: &WideCode, b: usize) -> CardsChecked {
+        match linked_wide(code).card_check(b) {
+            Ok(()) => CardsChecked::default(),
+            Err(desk::Refusal::WeakCard { card, mask }) => CardsChecked { number: 9, told: 0, card, mask },
+            Err(refusal) => refused(refusal).into(),
+        }
+    }
+
+    fn pass(&self, code: &WideCode, image: &mut [u8], journal: &mut [u8], asked: &Pass) -> Passed {
+        let Pass { start, end, used, stamp } = *asked;
+        let done =
+            |passed: desk::Passed| Passed { used: passed.used, tally: counts(passed.tally), ..Passed::default() };
+        let answer = linked_wide(code).pass(image, start..end, journal, used, stamp);
+        answer.map_or_else(|refusal| refused(refusal).into(), done)
+    }
+
+    fn put_back(&self, image: &mut [u8], journal: &mut [u8], used: usize) -> PutBack {
+        match desk::wide_put_back(image, journal, used) {
+            Ok(count) => PutBack { count, ..PutBack::default() },
+            Err(desk::Refusal::Mismatch { count }) => PutBack { number: 18, told: 0, count },
+            Err(refusal) => refused(refusal).into(),
+        }
+    }
+
+    fn make(&self, k: usize, r: usize) -> Made<WideCode> {
+        match desk::WideCode::made(k, r) {
+            Ok(code) => Made { number: 0, code: unlinked_wide(code) },
+            Err(refusal) => Made { number: refusal.number(), code: WideCode::of(&[], refusal.told()) },
+        }
+    }
+
+    fn recover(&self, code: &WideCode, data: u128, check: u16, bad: &[usize]) -> Recovered<u128> {
+        let done = |word: WideWord| Recovered { data: word.into(), check: word.check, ..Recovered::default() };
+        linked_wide(code).recover(halved(data, check), bad).map_or_else(|refusal| refused(refusal).into(), done)
+    }
+
+    fn find_bad(&self, code: &WideCode, first: (u128, u16), second: (u128, u16)) -> Found<u128> {
+        let done = |word: WideWord| Found { data: word.into(), check: word.check, ..Found::default() };
+        let (first, second) = (halved(first.0, first.1), halved(second.0, second.1));
+        linked_wide(code).find_bad(first, second).map_or_else(|refusal| refused(refusal).into(), done)
+    }
+}
+
 #[cfg(test)]
 mod tests {
     use super::*;
@@ -257,5 +435,7 @@ mod tests {
     fn every_worked_case() {
         assert_eq!(second::worked(&Archive), Vec::<String>::new());
         assert_eq!(second::worked(&Wrapper), Vec::<String>::new());
+        assert_eq!(second::worked_wide(&Archive), Vec::<String>::new());
+        assert_eq!(second::worked_wide(&Wrapper), Vec::<String>::new());
     }
 }

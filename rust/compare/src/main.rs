@@ -9,7 +9,7 @@ mod desks;
 mod program;
 
 use desks::{Archive, Wrapper};
-use second::{compare, Amounts, Desk, Second};
+use second::{compare, compare_narrow, compare_wide, Amounts, Desk, Difference, Line, Questions, Second, WideCode};
 use std::collections::BTreeMap;
 use std::process;
 use std::time::Instant;
@@ -18,6 +18,9 @@ const USAGE: &str = "compare gate | mend  [--times N] [--seed S]";
 
 /// How often the gate meets each refusal at least.
 const OFTEN: usize = 100;
+
+/// The refusal of a sheet, which has no code and no edition.
+const SHEET: usize = 19;
 
 /// The refusals that the desk has: the numbers of docs/refusals.txt.
 fn refusals() -> impl Iterator<Item = usize> {
@@ -50,19 +53,26 @@ fn asked(mut words: impl Iterator<Item = String>) -> Option<Asked> {
 struct Counts {
     passed: usize,
     failed: usize,
-    met: BTreeMap<usize, usize>,
+    met: BTreeMap<(Edition, usize), usize>,
+}
+
+/// Which edition is asked; what has none is asked with the first.
+#[derive(Clone, Copy, PartialEq, Eq, PartialOrd, Ord)]
+enum Edition {
+    TenBytes,
+    Wide,
 }
 
 impl Counts {
-    /// Compares the desks over these cases, of which some questions may have none.
-    fn compare(&mut self, desks: &[&dyn Desk], amounts: &Amounts, wanted: impl Fn(&str) -> bool) {
-        match compare(desks, amounts) {
+    /// Counts what the comparison of some desks gave, of which some questions may be left out.
+    fn compared(&mut self, edition: Edition, lines: Result<Vec<Line>, Box<Difference>>, wanted: impl Fn(&str) -> bool) {
+        match lines {
             Ok(lines) => {
                 for line in lines.iter().filter(|line| wanted(line.question)) {
                     println!("{}", line);
                     self.passed += line.cases;
                     for (&number, &count) in &line.numbers {
-                        *self.met.entry(number).or_insert(0) += count;
+                        *self.met.entry((edition, number)).or_insert(0) += count;
                     }
                 }
             }
@@ -85,18 +95,28 @@ impl Counts {
     }
 }
 
-/// Every question of the archive.
+/// Every question of the archive, in both editions.
 fn gate(asked: &Asked, counts: &mut Counts) {
     let desks: [&dyn Desk; 3] = [&Second, &Archive, &Wrapper];
+    let wide: [&dyn Questions<WideCode>; 3] = [&Second, &Archive, &Wrapper];
     for seed in asked.seed..asked.seed + asked.times {
         println!("seed {}: second, archive, wrapper", seed);
         let amounts = Amounts { seed, inputs: 0, ..Amounts::GATE };
-        counts.compare(&desks, &amounts, |question| question != "mend");
+        counts.compared(Edition::TenBytes, compare(&desks, &amounts), |question| question != "mend");
+        counts.compared(Edition::TenBytes, compare_narrow(&desks, &amounts), |_| true);
+        println!("seed {}, the wide edition: second, archive, wrapper", seed);
+        counts.compared(Edition::Wide, compare_wide(&wide, &amounts), |_| true);
     }
     for number in refusals() {
-        let met = counts.met.get(&number).copied().unwrap_or(0);
-        let often = if met < OFTEN { "seldom" } else { "often" };
-        counts.expect(&format!("refusal {} is met {} times", number, met), often, "often");
+        let mut met_in = |edition: Edition, name: &str| {
+            let met = counts.met.get(&(edition, number)).copied().unwrap_or(0);
+            let often = if met < OFTEN { "seldom" } else { "often" };
+            counts.expect(&format!("refusal {} is met {} times{}", number, met, name), often, "often");
+        };
+        met_in(Edition::TenBytes, "");
+        if number != SHEET {
+            met_in(Edition::Wide, " in the wide edition");
+        }
     }
 }
 
@@ -118,7 +138,8 @@ fn mend(asked: &Asked, counts: &mut Counts) {
     let none = Amounts { inputs, ..Amounts::NONE };
     for seed in asked.seed..asked.seed + asked.times {
         println!("seed {}: second, program", seed);
-        counts.compare(&[&Second, &Archive], &Amounts { seed, ..none }, |question| question == "mend");
+        let lines = compare(&[&Second, &Archive], &Amounts { seed, ..none });
+        counts.compared(Edition::TenBytes, lines, |question| question == "mend");
     }
 }
 

@@ -9,6 +9,18 @@ pub(crate) fn done<T>(number: usize, told: usize, answer: T) -> Result<T, Refusa
     Refusal::of(Plain { number, told, ..Plain::default() }).map_or(Ok(answer), Err)
 }
 
+/// A reading by its plain numbers.
+pub(crate) fn reading<W>(verdict: usize, place: usize, syndrome: u16, word: W) -> Reading<W> {
+    let verdict = Verdict::of(verdict).expect("a verdict of the table");
+    let place = if place == usize::from(NO_PLACE) { None } else { Some(place) };
+    Reading { verdict, place, syndrome, word }
+}
+
+/// The entries of a list, as many as it has.
+pub(crate) fn entries(list: &[u8], length: usize) -> Vec<Explanation> {
+    list.chunks_exact(2).take(length).map(|entry| Explanation::of([entry[0], entry[1]])).collect()
+}
+
 /// The smallest number of check bits for which a code of `k` data bits exists.
 ///
 /// ```
@@ -123,10 +135,8 @@ impl Code {
     pub fn read(&self, word: Word) -> Result<Reading, Refusal> {
         let answer = ffi::read(self, word.data, word.check);
         done(answer.number, answer.told, ())?;
-        let verdict = Verdict::of(answer.verdict).expect("a verdict of the table");
-        let place = if answer.place == usize::from(NO_PLACE) { None } else { Some(answer.place) };
         let word = Word { data: answer.data, check: answer.check };
-        Ok(Reading { verdict, place, syndrome: answer.syndrome, word })
+        Ok(reading(answer.verdict, answer.place, answer.syndrome, word))
     }
 
     /// All sets of at most `limit` places that explain the word: fewer places first, then the lower first place.
@@ -146,7 +156,7 @@ impl Code {
     pub fn explain(&self, word: Word, limit: usize) -> Result<Vec<Explanation>, Refusal> {
         let mut list = [0; LONGEST_LIST];
         let length = self.explain_into(word, limit, &mut list)?;
-        Ok(list.chunks_exact(2).take(length).map(|entry| Explanation::of([entry[0], entry[1]])).collect())
+        Ok(entries(&list, length))
     }
 
     /// The same list into a lent buffer, two bytes an entry, 255 where there is no place; answers its length in entries.

@@ -24,6 +24,38 @@ pub struct Code {
     pub r: usize,
 }
 
+/// A code of the wide edition, of 128 column places; else as [`Code`].
+#[repr(C)]
+#[derive(Clone, Copy, PartialEq, Eq, Hash, Debug)]
+pub struct WideCode {
+    /// The data columns, then 0.
+    pub columns: [u16; 128],
+    /// How many data bits, 1 to 128.
+    pub k: usize,
+    /// How many check bits, 3 to 16.
+    pub r: usize,
+}
+
+/// A word of the wide edition: its data in two halves.
+///
+/// ```
+/// use desk::WideWord;
+///
+/// let word = WideWord { check: 5, ..WideWord::from(1 << 64 | 3) };
+/// assert_eq!(word, WideWord { low: 3, high: 1, check: 5 });
+/// assert_eq!(u128::from(word), 1 << 64 | 3);
+/// ```
+#[repr(C)]
+#[derive(Clone, Copy, PartialEq, Eq, Hash, Debug, Default)]
+pub struct WideWord {
+    /// Data bit i below 64 is bit i.
+    pub low: u64,
+    /// Data bit 64 + i is bit i.
+    pub high: u64,
+    /// Check bit j is bit j; its place in the word is k + j.
+    pub check: u16,
+}
+
 /// How many records of a run have each verdict.
 #[repr(C)]
 #[derive(Clone, Copy, PartialEq, Eq, Hash, Debug, Default)]
@@ -104,6 +136,24 @@ pub struct ReadWord {
     pub check: u16,
     /// The syndrome of the word as read: 0 exactly where it is clean, the column of the place where there is one.
     pub syndrome: u16,
+}
+
+/// The answer of [`wide_read`].
+#[repr(C)]
+#[derive(Clone, Copy, PartialEq, Eq, Debug, Default)]
+pub struct WideReadWord {
+    /// 0, or the number of the refusal.
+    pub number: usize,
+    /// What goes with the number.
+    pub told: usize,
+    /// The verdict, 0 to 4.
+    pub verdict: usize,
+    /// The flipped place, 255 for none.
+    pub place: usize,
+    /// The syndrome of the word as read.
+    pub syndrome: u16,
+    /// The word handed back.
+    pub word: WideWord,
 }
 
 /// The answer of [`explain`].
@@ -194,6 +244,16 @@ pub struct Made {
     pub code: Code,
 }
 
+/// The answer of [`wide_make`].
+#[repr(C)]
+#[derive(Clone, Copy, PartialEq, Eq, Debug)]
+pub struct WideMade {
+    /// 0, or the number of the refusal, which tells nothing.
+    pub number: usize,
+    /// The code that is made; k, r and every column are 0 where it is refused.
+    pub code: WideCode,
+}
+
 /// The number of a byte of three bits in a word of ten: 0 to 6 are data bytes, 7 to 9 check bytes.
 ///
 /// It is a kind of its own, so that it is not taken for a place, which is a `usize`:
@@ -269,6 +329,30 @@ pub struct BadPlaces {
     pub check: u16,
 }
 
+/// The answer of [`wide_recover`].
+#[repr(C)]
+#[derive(Clone, Copy, PartialEq, Eq, Debug, Default)]
+pub struct WideRecovered {
+    /// 0, or the number of the refusal.
+    pub number: usize,
+    /// What goes with the number.
+    pub told: usize,
+    /// The code word.
+    pub word: WideWord,
+}
+
+/// The answer of [`wide_find_bad`].
+#[repr(C)]
+#[derive(Clone, Copy, PartialEq, Eq, Debug, Default)]
+pub struct WideBadPlaces {
+    /// 0, or the number of the refusal.
+    pub number: usize,
+    /// What goes with the number.
+    pub told: usize,
+    /// A one for each bad place.
+    pub word: WideWord,
+}
+
 extern "C" {
     fn desk_version() -> usize;
     fn desk_check_bits(k: usize) -> CheckBits;
@@ -304,6 +388,49 @@ extern "C" {
     fn desk_byte_read(word: u64) -> ByteReading;
     fn desk_recover(code: Code, data: u64, check: u16, bad: *const usize, count: usize) -> Recovered;
     fn desk_find_bad(code: Code, first_data: u64, first_check: u16, second_data: u64, second_check: u16) -> BadPlaces;
+    fn desk_wide_check_bits(k: usize) -> CheckBits;
+    fn desk_wide_make(k: usize, r: usize) -> WideMade;
+    fn desk_wide_judge(code: WideCode) -> Judgement;
+    fn desk_wide_row_balance(code: WideCode) -> RowBalance;
+    fn desk_wide_write(code: WideCode, low: u64, high: u64) -> CheckWord;
+    fn desk_wide_read(code: WideCode, low: u64, high: u64, check: u16) -> WideReadWord;
+    fn desk_wide_explain(
+        code: WideCode,
+        low: u64,
+        high: u64,
+        check: u16,
+        limit: usize,
+        list: *mut u8,
+        list_length: usize,
+    ) -> Listing;
+    fn desk_wide_cards(code: WideCode, b: usize) -> CardCheck;
+    fn desk_wide_pass(
+        code: WideCode,
+        image: *mut u8,
+        image_length: usize,
+        start: usize,
+        end: usize,
+        journal: *mut u8,
+        journal_length: usize,
+        used: usize,
+        stamp: u32,
+    ) -> PassAnswer;
+    fn desk_wide_put_back(
+        image: *mut u8,
+        image_length: usize,
+        journal: *const u8,
+        journal_length: usize,
+        used: usize,
+    ) -> PutBack;
+    fn desk_wide_recover(
+        code: WideCode,
+        low: u64,
+        high: u64,
+        check: u16,
+        bad: *const usize,
+        count: usize,
+    ) -> WideRecovered;
+    fn desk_wide_find_bad(code: WideCode, first: WideWord, second: WideWord) -> WideBadPlaces;
 }
 
 /// Asks the archive, once it is known to be of this crate's version.
@@ -422,4 +549,74 @@ pub fn recover(code: &Code, data: u64, check: u16, bad: &[usize]) -> Recovered {
 /// The places where two reads, after a pattern and its complement were written, agree, as ones; refuses with 7.
 pub fn find_bad(code: &Code, first: (u64, u16), second: (u64, u16)) -> BadPlaces {
     ask!(desk_find_bad(*code, first.0, first.1, second.0, second.1))
+}
+
+/// [`check_bits`] of the wide edition, to 128 data bits.
+pub fn wide_check_bits(k: usize) -> CheckBits {
+    ask!(desk_wide_check_bits(k))
+}
+
+/// [`make`] of the wide edition.
+pub fn wide_make(k: usize, r: usize) -> WideMade {
+    ask!(desk_wide_make(k, r))
+}
+
+/// [`judge`] of the wide edition.
+pub fn wide_judge(code: &WideCode) -> Judgement {
+    ask!(desk_wide_judge(*code))
+}
+
+/// [`row_balance`] of the wide edition.
+pub fn wide_row_balance(code: &WideCode) -> RowBalance {
+    ask!(desk_wide_row_balance(*code))
+}
+
+/// [`write`](fn@write) of the wide edition: the data in two halves.
+pub fn wide_write(code: &WideCode, low: u64, high: u64) -> CheckWord {
+    ask!(desk_wide_write(*code, low, high))
+}
+
+/// [`read`] of the wide edition.
+pub fn wide_read(code: &WideCode, word: WideWord) -> WideReadWord {
+    ask!(desk_wide_read(*code, word.low, word.high, word.check))
+}
+
+/// [`explain`] of the wide edition.
+pub fn wide_explain(code: &WideCode, word: WideWord, limit: usize, list: &mut [u8]) -> Listing {
+    ask!(desk_wide_explain(*code, word.low, word.high, word.check, limit, list.as_mut_ptr(), list.len()))
+}
+
+/// [`cards`] of the wide edition.
+pub fn wide_cards(code: &WideCode, b: usize) -> CardCheck {
+    ask!(desk_wide_cards(*code, b))
+}
+
+/// [`pass`] of the wide edition: records of 18 bytes, entries of 46.
+pub fn wide_pass(
+    code: &WideCode,
+    image: &mut [u8],
+    start: usize,
+    end: usize,
+    journal: &mut [u8],
+    used: usize,
+    stamp: u32,
+) -> PassAnswer {
+    let (image, image_length) = (image.as_mut_ptr(), image.len());
+    let (journal, journal_length) = (journal.as_mut_ptr(), journal.len());
+    ask!(desk_wide_pass(*code, image, image_length, start, end, journal, journal_length, used, stamp))
+}
+
+/// [`put_back`] of the wide edition.
+pub fn wide_put_back(image: &mut [u8], journal: &[u8], used: usize) -> PutBack {
+    ask!(desk_wide_put_back(image.as_mut_ptr(), image.len(), journal.as_ptr(), journal.len(), used))
+}
+
+/// [`recover`] of the wide edition.
+pub fn wide_recover(code: &WideCode, word: WideWord, bad: &[usize]) -> WideRecovered {
+    ask!(desk_wide_recover(*code, word.low, word.high, word.check, bad.as_ptr(), bad.len()))
+}
+
+/// [`find_bad`] of the wide edition.
+pub fn wide_find_bad(code: &WideCode, first: WideWord, second: WideWord) -> WideBadPlaces {
+    ask!(desk_wide_find_bad(*code, first, second))
 }

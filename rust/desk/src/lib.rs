@@ -1,8 +1,8 @@
 //! The mending desk: single-error-correcting, double-error-detecting codes with columns of odd weight.
 //!
 //! A safe wrapper of `libdesk.a`, whose functions are written in Rattle and proved: every answer, every refusal and
-//! every byte of a lent buffer is stated by a definition. Each question is a function here or a method of [`Code`] or
-//! [`Station`], and answers a [`Result`] whose error is a [`Refusal`], with its number and what it tells.
+//! every byte of a lent buffer is stated by a definition. Each question is a function here or a method of [`Code`],
+//! [`WideCode`] or [`Station`], and answers a [`Result`] whose error is a [`Refusal`], with its number and what it tells.
 //!
 //! ```
 //! use desk::{Code, Explanation, Refusal, Verdict, Word};
@@ -32,6 +32,9 @@
 //! # }
 //! ```
 //!
+//! Words of more than 64 data bits have an edition of their own: [`WideCode`] keeps 128 column places and has every
+//! question of [`Code`], over a [`WideWord`] of two halves, which an `u128` becomes. Sealed claims stay with [`Code`].
+//!
 //! Those who want the plain numbers of the archive find them in [`ffi`]. Either way the first call compares versions, and
 //! stops at an archive that is of another than [`VERSION`].
 #![deny(missing_docs, unsafe_code)]
@@ -46,16 +49,18 @@ mod refusal;
 mod sheet;
 mod tally;
 mod version;
+mod wide;
 mod word;
 
 pub use back::put_back;
 pub use bytes::{byte_read, byte_write, ByteReading, ByteVerdict};
 pub use code::check_bits_wanted;
-pub use ffi::{ByteNumber, Code, Sheet, Tally};
+pub use ffi::{ByteNumber, Code, Sheet, Tally, WideCode, WideWord};
 pub use refusal::Refusal;
 pub use sheet::{JudgedSheet, Limit, Station};
 pub use tally::Passed;
 pub use version::VERSION;
+pub use wide::{wide_check_bits_wanted, wide_put_back};
 pub use word::{Explanation, Reading, Verdict, Word};
 
 /// Bytes of a record: data in 8, check bits in 2, low byte first.
@@ -67,6 +72,14 @@ pub const ENTRY: usize = 30;
 pub const IMAGE: usize = 65_530;
 /// Bytes that hold any list of explanations.
 pub const LONGEST_LIST: usize = 80;
+/// Bytes of a record of the wide edition: data in 16, check bits in 2, low byte first.
+pub const WIDE_RECORD: usize = 18;
+/// Bytes of a journal entry of the wide edition: as [`ENTRY`], with 18 bytes as read and 18 as left.
+pub const WIDE_ENTRY: usize = 46;
+/// Bytes of the longest image of the wide edition, which are 3,640 records.
+pub const WIDE_IMAGE: usize = 65_520;
+/// Bytes that hold any list of explanations of the wide edition.
+pub const WIDE_LONGEST_LIST: usize = 144;
 /// The place that stands in an entry or in a list where there is none.
 pub const NO_PLACE: u8 = 255;
 /// The number that stands in a reading of ten bytes where no byte is named.

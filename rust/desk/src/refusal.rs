@@ -71,7 +71,7 @@ macro_rules! refusals {
 
 refusals! {
     1 DataBits,
-        "k is 0 or over 64", "k is 0 or over 64";
+        "k is 0 or over 64; wide edition: over 128", "k is 0 or over 64, in the wide edition over 128";
     2 CheckBits,
         "r below 3 or over 16", "r is below 3 or over 16";
     3 WideColumn { place = told "first bad place" },
@@ -95,9 +95,10 @@ refusals! {
     11 FlipLimit,
         "flip limit over 2", "the flip limit is over 2";
     12 ImageLength,
-        "image length no multiple of 10, or over 65,530", "the image's length is no multiple of 10, or over 65530";
+        "image length no multiple of 10, or over 65,530; wide edition: of 18, over 65,520",
+        "the image's length is no multiple of a record's, or over that of the longest image";
     13 JournalRoom { needed = told "entries needed" },
-        "journal room left (its length / 30, down, less the entries in use) below the entries needed",
+        "journal room left (its length / 30, wide edition: / 46, down, less the entries in use) below the entries needed",
         "the journal needs room for {needed} more entries";
     14 Run,
         "run's start above its end, or its end above the number of records", "the run does not lie in the image";

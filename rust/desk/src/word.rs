@@ -1,6 +1,6 @@
 //! Words, what reading says of them, and what explains them.
 
-use crate::NO_PLACE;
+use crate::{WideWord, NO_PLACE};
 
 /// A word as it stands in memory.
 #[derive(Clone, Copy, PartialEq, Eq, Hash, Debug, Default)]
@@ -9,6 +9,20 @@ pub struct Word {
     pub data: u64,
     /// Check bit j is bit j; its place in the word is k + j.
     pub check: u16,
+}
+
+/// The word with these data bits and no check bit.
+impl From<u128> for WideWord {
+    fn from(data: u128) -> WideWord {
+        WideWord { low: data as u64, high: (data >> 64) as u64, check: 0 }
+    }
+}
+
+/// Its data bits.
+impl From<WideWord> for u128 {
+    fn from(word: WideWord) -> u128 {
+        u128::from(word.high) << 64 | u128::from(word.low)
+    }
 }
 
 /// What reading says of a word.
@@ -44,9 +58,9 @@ impl Verdict {
     }
 }
 
-/// What is in a word as read.
+/// What is in a word as read; the word is a [`Word`], or in the wide edition a [`WideWord`].
 #[derive(Clone, Copy, PartialEq, Eq, Hash, Debug)]
-pub struct Reading {
+pub struct Reading<W = Word> {
     /// Never [`Verdict::Stray`]: a single word with stray bits is refused.
     pub verdict: Verdict,
     /// The flipped place, with [`Verdict::Data`] and [`Verdict::Check`]; the desk's 255 is `None`.
@@ -55,7 +69,7 @@ pub struct Reading {
     /// exactly for a clean word, and the column of the place where there is one.
     pub syndrome: u16,
     /// The word mended, or as read where it is not mended.
-    pub word: Word,
+    pub word: W,
 }
 
 /// A set of places: flipping exactly these gives a clean word.

@@ -2,6 +2,7 @@
 
 use desk::ffi::*;
 use desk::{ENTRY, IMAGE, LONGEST_LIST, NO_BYTE, NO_PLACE, RECORD, VERSION};
+use desk::{WIDE_ENTRY, WIDE_IMAGE, WIDE_LONGEST_LIST, WIDE_RECORD};
 use std::mem::{align_of, size_of, size_of_val};
 
 /// The lines of a struct: its size, then each of its fields.
@@ -30,6 +31,7 @@ fn rust_lays_out_every_struct_as_c_does() {
     let lines = [
         sizes!(VERSION RECORD ENTRY IMAGE LONGEST_LIST NO_PLACE),
         vec![format!("NO_BYTE {}", NO_BYTE.0)],
+        sizes!(WIDE_RECORD WIDE_ENTRY WIDE_IMAGE WIDE_LONGEST_LIST),
         lines!(Code { columns, k, r } of Code { columns: [0; 64], k: 0, r: 0 }),
         lines!(CheckBits { number, bits } of Default::default()),
         lines!(Judgement { number, told } of Default::default()),
@@ -49,6 +51,12 @@ fn rust_lays_out_every_struct_as_c_does() {
         lines!(ByteReading { number, told, verdict, byte, word } of Default::default()),
         lines!(Recovered { number, told, data, check } of Default::default()),
         lines!(BadPlaces { number, told, data, check } of Default::default()),
+        lines!(WideCode { columns, k, r } of WideCode { columns: [0; 128], k: 0, r: 0 }),
+        lines!(WideWord { low, high, check } of Default::default()),
+        lines!(WideReadWord { number, told, verdict, place, syndrome, word } of Default::default()),
+        lines!(WideMade { number, code } of WideMade { number: 0, code: WideCode { columns: [0; 128], k: 0, r: 0 } }),
+        lines!(WideRecovered { number, told, word } of Default::default()),
+        lines!(WideBadPlaces { number, told, word } of Default::default()),
     ];
     let expected: Vec<&str> = include_str!("../../../c/layout.txt").lines().collect();
     assert_eq!(lines.concat(), expected);

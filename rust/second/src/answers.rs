@@ -43,13 +43,14 @@ pub struct Written {
     pub check: u16,
 }
 
+/// Of a word of the ten-byte edition, or with u128 of the wide one.
 #[derive(Clone, Copy, PartialEq, Eq, Debug, Default)]
-pub struct Reading {
+pub struct Reading<D = u64> {
     pub number: usize,
     pub told: usize,
     pub verdict: usize,
     pub place: usize,
-    pub data: u64,
+    pub data: D,
     pub check: u16,
     /// Of the word as read.
     pub syndrome: u16,
@@ -110,20 +111,32 @@ impl From<Refusal> for Judged {
 
 /// The code word, where some places are bad.
 #[derive(Clone, Copy, PartialEq, Eq, Debug, Default)]
-pub struct Recovered {
+pub struct Recovered<D = u64> {
     pub number: usize,
     pub told: usize,
-    pub data: u64,
+    pub data: D,
     pub check: u16,
 }
 
 /// Bad places, as ones.
 #[derive(Clone, Copy, PartialEq, Eq, Debug, Default)]
-pub struct Found {
+pub struct Found<D = u64> {
     pub number: usize,
     pub told: usize,
-    pub data: u64,
+    pub data: D,
     pub check: u16,
 }
 
-refused!(Balanced Written Reading Explained CardsChecked Passed PutBack Recovered Found);
+/// The same of answers with data bits of an edition.
+macro_rules! refused_with_data {
+    ($($answer:ident)*) => {$(
+        impl<D: Default> From<Refusal> for $answer<D> {
+            fn from(refusal: Refusal) -> $answer<D> {
+                $answer { number: refusal.number, told: refusal.told, ..$answer::default() }
+            }
+        }
+    )*};
+}
+
+refused!(Balanced Written Explained CardsChecked Passed PutBack);
+refused_with_data!(Reading Recovered Found);

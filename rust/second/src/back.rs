@@ -3,7 +3,7 @@
 //! Nothing is undone step by step: every entry is asked whether it would match, and the image is built anew.
 
 use crate::answers::{PutBack, Refusal};
-use crate::pass::{ENTRY, IMAGE, RECORD};
+use crate::code::{Code, Coded};
 
 /// What an entry says: the number of its record, and the record's bytes as read and as left. The rest is not judged.
 struct Said<'a> {
@@ -12,9 +12,9 @@ struct Said<'a> {
     left: &'a [u8],
 }
 
-fn said(entry: &[u8]) -> Said<'_> {
-    let (head, bytes) = entry.split_at(ENTRY - 2 * RECORD);
-    let (read, left) = bytes.split_at(RECORD);
+fn said<C: Coded>(entry: &[u8]) -> Said<'_> {
+    let (head, bytes) = entry.split_at(C::ENTRY - 2 * C::RECORD);
+    let (read, left) = bytes.split_at(C::RECORD);
     Said { record: usize::from(head[4]) + 256 * usize::from(head[5]), read, left }
 }
 
@@ -25,15 +25,20 @@ fn holds<'a>(record: usize, held: &'a [u8], back: &[Said<'a>]) -> &'a [u8] {
 
 /// Puts back the entries in use behind the last of them that does not match, or all.
 pub fn put_back(image: &mut [u8], journal: &[u8], used: usize) -> PutBack {
-    if image.len() % RECORD != 0 || image.len() > IMAGE {
+    put_back_in::<Code>(image, journal, used)
+}
+
+/// The same in any edition.
+pub fn put_back_in<C: Coded>(image: &mut [u8], journal: &[u8], used: usize) -> PutBack {
+    if image.len() % C::RECORD != 0 || image.len() > C::IMAGE {
         return Refusal::plain(12).into();
     }
-    let entries: Vec<Said> = journal.chunks_exact(ENTRY).take(used).map(said).collect();
+    let entries: Vec<Said> = journal.chunks_exact(C::ENTRY).take(used).map(said::<C>).collect();
     if entries.len() < used {
         return Refusal::plain(17).into();
     }
     let before = image.to_vec();
-    let records: Vec<&[u8]> = before.chunks(RECORD).collect();
+    let records: Vec<&[u8]> = before.chunks(C::RECORD).collect();
     let fits = |(at, one): (usize, &Said)| {
         let held = records.get(one.record);
         held.map_or(false, |held| holds(one.record, held, &entries[at + 1..]) == one.left)

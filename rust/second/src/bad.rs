@@ -1,7 +1,7 @@
 //! Places known to be bad: every word within reach is tried, and the finder compares place by place.
 
 use crate::answers::{Found, Recovered, Refusal};
-use crate::code::Code;
+use crate::code::{Coded, Data};
 use crate::word::{number, word_of, Accepted};
 use std::collections::BTreeSet;
 
@@ -37,11 +37,11 @@ fn flips_beside(bad: usize) -> usize {
 }
 
 /// Which code word was this, if these places are bad?
-pub fn recover(code: &Code, data: u64, check: u16, bad: &[usize]) -> Recovered {
-    try_recover(code, data, check, bad).unwrap_or_else(Recovered::from)
+pub fn recover<C: Coded>(code: &C, data: C::Data, check: u16, bad: &[usize]) -> Recovered<C::Data> {
+    try_recover(code, data.into(), check, bad).unwrap_or_else(Recovered::from)
 }
 
-fn try_recover(code: &Code, data: u64, check: u16, bad: &[usize]) -> Result<Recovered, Refusal> {
+fn try_recover<C: Coded>(code: &C, data: u128, check: u16, bad: &[usize]) -> Result<Recovered<C::Data>, Refusal> {
     let code = Accepted::new(code)?;
     let word = word_of(&code, data, check)?;
     let different: BTreeSet<usize> = bad.iter().copied().filter(|&place| place < code.n()).collect();
@@ -53,21 +53,21 @@ fn try_recover(code: &Code, data: u64, check: u16, bad: &[usize]) -> Result<Reco
     assert!(proper.len() <= 1, "two code words are within reach of {:?} with {:?} bad", word, bad);
     let word = proper.into_iter().next().ok_or_else(|| Refusal::plain(23))?;
     let (data, check) = (number(&word[..code.k]), number(&word[code.k..]) as u16);
-    Ok(Recovered { data, check, ..Recovered::default() })
+    Ok(Recovered { data: C::Data::of(data), check, ..Recovered::default() })
 }
 
 /// Which places do not differ in two reads, after a pattern and its complement were written?
-pub fn find_bad(code: &Code, first: (u64, u16), second: (u64, u16)) -> Found {
+pub fn find_bad<C: Coded>(code: &C, first: (C::Data, u16), second: (C::Data, u16)) -> Found<C::Data> {
     try_find(code, first, second).unwrap_or_else(Found::from)
 }
 
-fn try_find(code: &Code, first: (u64, u16), second: (u64, u16)) -> Result<Found, Refusal> {
+fn try_find<C: Coded>(code: &C, first: (C::Data, u16), second: (C::Data, u16)) -> Result<Found<C::Data>, Refusal> {
     let code = Accepted::new(code)?;
-    let one = word_of(&code, first.0, first.1)?;
-    let other = word_of(&code, second.0, second.1)?;
+    let one = word_of(&code, first.0.into(), first.1)?;
+    let other = word_of(&code, second.0.into(), second.1)?;
     let same: Vec<bool> = one.iter().zip(&other).map(|(a, b)| a == b).collect();
     let (data, check) = (number(&same[..code.k]), number(&same[code.k..]) as u16);
-    Ok(Found { data, check, ..Found::default() })
+    Ok(Found { data: C::Data::of(data), check, ..Found::default() })
 }
 
 #[cfg(test)]

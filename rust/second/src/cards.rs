@@ -1,7 +1,7 @@
 //! The card check: every set of two or more places of a card is flipped, and reading must flag it.
 
 use crate::answers::{CardsChecked, Refusal};
-use crate::code::{ones, switches, Code};
+use crate::code::{ones, switches, Coded};
 use crate::word::Accepted;
 
 /// Does reading flag this word, neither clean nor one flip from clean?
@@ -26,7 +26,7 @@ pub fn cards(code: &Accepted, b: usize) -> Vec<Vec<usize>> {
 pub fn weak_spot(code: &Accepted, clean: &[bool], b: usize) -> Option<(usize, usize)> {
     for (card, on_card) in cards(code, b).iter().enumerate() {
         for mask in 0..1usize << on_card.len() {
-            let chosen = switches(mask as u64, on_card.len());
+            let chosen = switches(mask as u128, on_card.len());
             if ones(&chosen) < 2 {
                 continue;
             }
@@ -43,11 +43,11 @@ pub fn weak_spot(code: &Accepted, clean: &[bool], b: usize) -> Option<(usize, us
 }
 
 /// Is the code card-proof for cards of b places?
-pub fn card_check(code: &Code, b: usize) -> CardsChecked {
+pub fn card_check<C: Coded>(code: &C, b: usize) -> CardsChecked {
     try_card_check(code, b).unwrap_or_else(CardsChecked::from)
 }
 
-fn try_card_check(code: &Code, b: usize) -> Result<CardsChecked, Refusal> {
+fn try_card_check<C: Coded>(code: &C, b: usize) -> Result<CardsChecked, Refusal> {
     let code = Accepted::new(code)?;
     if !(2..=8).contains(&b) {
         return Err(Refusal::plain(8));
@@ -68,8 +68,8 @@ mod tests {
     #[test]
     fn every_clean_word_shows_the_same_weak_spot() {
         let sample = Accepted::new(&sample_code()).unwrap();
-        for data in 0..=0xFF {
-            let clean = word_of(&sample, data, write(&sample_code(), data).check).unwrap();
+        for data in 0..=0xFFu64 {
+            let clean = word_of(&sample, data.into(), write(&sample_code(), data).check).unwrap();
             assert_eq!(weak_spot(&sample, &clean, 2), None);
             assert_eq!(weak_spot(&sample, &clean, 3), Some((1, 7)));
             assert_eq!(weak_spot(&sample, &clean, 4), Some((0, 11)));

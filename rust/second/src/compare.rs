@@ -2,12 +2,13 @@
 
 use crate::answers::{Explained, Judged, Passed, PutBack, Reading, Recovered, Written};
 use crate::cases::{
-    asked_shapes, edges, edges_of_bits, BackCase, BadCase, Cases, ImageCase, ListCase, TurnsCase, HUGE,
+    asked_shapes_in, edges, edges_of_bits, BackCase, BadCase, Cases, CasesOf, ImageCase, ListCase, TurnsCase, HUGE,
 };
-use crate::desk::{Desk, Second};
+use crate::code::{Code, Coded, Data, WideCode};
+use crate::desk::{Desk, Questions, Second};
 use crate::make::Made;
 use crate::orders::{both_passed, in_every_order, promised_orders, promised_overlap};
-use crate::pass::{Pass, ENTRY};
+use crate::pass::Pass;
 use std::collections::BTreeMap;
 use std::fmt;
 use std::time::{Duration, Instant};
@@ -21,7 +22,8 @@ pub struct Amounts {
     pub lists: usize,
     pub cards: usize,
     pub images: usize,
-    /// Images over which passes follow one another in one journal.
+    /// Images over which passes follow one another in one journal; and as many of which image or journal has the other
+    /// edition's size.
     pub turns: usize,
     /// Images with two to five runs apart, passed over in every order.
     pub orders: usize,
@@ -132,24 +134,41 @@ impl fmt::Display for Difference {
     }
 }
 
+/// Whoever is asked has a name.
+trait Named {
+    fn named(&self) -> &'static str;
+}
+
+impl Named for dyn Desk + '_ {
+    fn named(&self) -> &'static str {
+        self.name()
+    }
+}
+
+impl<C: Coded> Named for dyn Questions<C> + '_ {
+    fn named(&self) -> &'static str {
+        self.name()
+    }
+}
+
 /// Asks every desk the same cases, one question of them; `number` is the number that an answer hands back.
-fn ask<C: fmt::Debug, A: fmt::Debug + PartialEq>(
+fn ask<Q: Named + ?Sized, C: fmt::Debug, A: fmt::Debug + PartialEq>(
     question: &'static str,
-    desks: &[&dyn Desk],
+    desks: &[&Q],
     cases: impl Iterator<Item = C>,
-    answer: impl Fn(&dyn Desk, &C) -> A,
+    answer: impl Fn(&Q, &C) -> A,
     number: impl Fn(&A) -> usize,
 ) -> Result<Line, Box<Difference>> {
     ask_promised(question, desks, cases, |_| None, answer, number)
 }
 
 /// The same, where a document may promise what the answer is, so that desks which agree with one another can all be wrong.
-fn ask_promised<C: fmt::Debug, A: fmt::Debug + PartialEq>(
+fn ask_promised<Q: Named + ?Sized, C: fmt::Debug, A: fmt::Debug + PartialEq>(
     question: &'static str,
-    desks: &[&dyn Desk],
+    desks: &[&Q],
     cases: impl Iterator<Item = C>,
     promised: impl Fn(&C) -> Option<A>,
-    answer: impl Fn(&dyn Desk, &C) -> A,
+    answer: impl Fn(&Q, &C) -> A,
     number: impl Fn(&A) -> usize,
 ) -> Result<Line, Box<Difference>> {
     let times = vec![Duration::default(); desks.len()];
@@ -158,7 +177,7 @@ fn ask_promised<C: fmt::Debug, A: fmt::Debug + PartialEq>(
         let mut answers: Vec<(&str, A)> = promised(&case).map(|answer| ("the promise", answer)).into_iter().collect();
         for (desk, time) in desks.iter().zip(&mut line.times) {
             let begin = Instant::now();
-            answers.push((desk.name(), answer(*desk, &case)));
+            answers.push((desk.named(), answer(desk, &case)));
             *time += begin.elapsed();
         }
         if let Some(other) = answers.iter().find(|other| other.1 != answers[0].1) {
@@ -173,61 +192,116 @@ fn ask_promised<C: fmt::Debug, A: fmt::Debug + PartialEq>(
 }
 
 /// The first `count` cases of a stream of their own; it is not begun for none.
-fn cases<C>(amounts: &Amounts, question: u64, count: usize, next: fn(&mut Cases) -> C) -> impl Iterator<Item = C> {
+fn cases<C: Coded, T>(
+    amounts: &Amounts,
+    question: u64,
+    count: usize,
+    next: fn(&mut CasesOf<C>) -> T,
+) -> impl Iterator<Item = T> {
     let seed = amounts.seed.wrapping_mul(1_000).wrapping_add(question);
-    let mut cases = if count > 0 { Some(Cases::new(seed)) } else { None };
+    let mut cases = if count > 0 { Some(CasesOf::new(seed)) } else { None };
     (0..count).filter_map(move |_| cases.as_mut().map(next))
 }
 
-/// All questions, of every desk; with one desk alone it only counts and times.
-pub fn compare(desks: &[&dyn Desk], amounts: &Amounts) -> Result<Vec<Line>, Box<Difference>> {
+/// The questions about the codes of one edition, and its put-back; that of the maker comes apart.
+fn compare_codes<C: Coded>(
+    desks: &[&dyn Questions<C>],
+    amounts: &Amounts,
+) -> Result<(Vec<Line>, Line), Box<Difference>> {
     let numbers_of_bits = (0..=300).chain(HUGE);
-    let codes = || cases(amounts, 1, amounts.codes, Cases::code);
-    let words = || cases(amounts, 2, amounts.words, Cases::word);
-    let lists = cases(amounts, 3, amounts.lists, Cases::list);
-    let cards = cases(amounts, 4, amounts.cards, Cases::card);
-    let images = cases(amounts, 5, amounts.images, Cases::image);
-    let turns = cases(amounts, 8, amounts.turns, Cases::turns);
-    let orders = cases(amounts, 14, amounts.orders, Cases::orders);
-    let overlaps = cases(amounts, 15, amounts.overlaps, Cases::overlap);
-    let backs = cases(amounts, 12, amounts.backs, Cases::back);
-    let histories = cases(amounts, 13, amounts.histories, Cases::history);
-    let stations = edges().into_iter().chain(cases(amounts, 7, amounts.sheets, Cases::station));
-    let byte_data = edges_of_bits().chain(cases(amounts, 9, amounts.byte_words, Cases::byte_data));
-    let byte_errors = cases(amounts, 10, amounts.byte_errors, Cases::byte_errors).flatten();
-    let byte_words = edges_of_bits().chain(cases(amounts, 11, amounts.byte_words, Cases::byte_word));
-    let small_bad = cases(amounts, 16, amounts.small_bad, Cases::small_bad).flatten();
-    let bad = cases(amounts, 17, amounts.bad, Cases::bad);
-    let finds = cases(amounts, 18, amounts.finds, Cases::find);
-    let inputs = cases(amounts, 6, amounts.inputs, Cases::program_input);
-    Ok(vec![
+    let codes = || cases(amounts, 1, amounts.codes, CasesOf::<C>::code);
+    let words = || cases(amounts, 2, amounts.words, CasesOf::<C>::word);
+    let lists = cases(amounts, 3, amounts.lists, CasesOf::<C>::list);
+    let cards = cases(amounts, 4, amounts.cards, CasesOf::<C>::card);
+    let images = cases(amounts, 5, amounts.images, CasesOf::<C>::image);
+    let turns = cases(amounts, 8, amounts.turns, CasesOf::<C>::turns);
+    let orders = cases(amounts, 14, amounts.orders, CasesOf::<C>::orders);
+    let overlaps = cases(amounts, 15, amounts.overlaps, CasesOf::<C>::overlap);
+    let backs = cases(amounts, 12, amounts.backs, CasesOf::<C>::back);
+    let histories = cases(amounts, 13, amounts.histories, CasesOf::<C>::history);
+    let every_order = |o: &_| Some(promised_orders::<C>(o));
+    let lines = vec![
         ask("check bits", desks, numbers_of_bits, |d, &k| d.wanted(k), |a| a.number)?,
         ask("judge", desks, codes(), |d, c| d.judge(c), |a| a.number)?,
         ask("row balance", desks, codes(), |d, c| d.row_balance(c), |a| a.number)?,
         ask("write", desks, words(), |d, w| d.write(&w.code, w.data), |a| a.number)?,
         ask("read", desks, words(), |d, w| d.read(&w.code, w.data, w.check), |a| a.number)?,
-        ask("explain", desks, lists, explained, |a| a.0.number)?,
+        ask("explain", desks, lists, |d, l| explained(d, l), |a| a.0.number)?,
         ask("card check", desks, cards, |d, c| d.card_check(&c.code, c.b), |a| a.number)?,
-        ask("pass", desks, images, passed, |a| a.0.number)?,
-        ask("passes", desks, turns, passed_in_turn, |a| a.0.last().map_or(0, |last| last.number))?,
-        ask_promised("orders", desks, orders, |o| Some(promised_orders(o)), in_every_order, |a| a[0].answers[0].0)?,
-        ask_promised("overlaps", desks, overlaps, |o| Some(promised_overlap(o)), both_passed, |a| a.numbers[0])?,
-        ask("put back", desks, backs, put_back, |a| a.0.number)?,
-        ask_promised("history", desks, histories, |h| Some(promised(h)), history, |a| a.back.0.number)?,
+        ask("pass", desks, images, |d, i| passed(d, i), |a| a.0.number)?,
+        ask("passes", desks, turns, |d, t| passed_in_turn(d, t), |a| a.0.last().map_or(0, |last| last.number))?,
+        ask_promised("orders", desks, orders, every_order, |d, o| in_every_order(d, o), |a| a[0].answers[0].0)?,
+        ask_promised(
+            "overlaps",
+            desks,
+            overlaps,
+            |o| Some(promised_overlap(o)),
+            |d, o| both_passed(d, o),
+            |a| a.numbers[0],
+        )?,
+        ask("put back", desks, backs, |d, b| put_back(d, b), |a| a.0.number)?,
+        ask_promised("history", desks, histories, |h| Some(promised(h)), |d, h| history(d, h), |a| a.back.0.number)?,
+    ];
+    Ok((lines, ask("make", desks, asked_shapes_in::<C>(), |d, c| made(d, c), |a| a.0.number)?))
+}
+
+/// Passes of which image or journal has the other edition's size.
+fn compare_across<C: Coded>(desks: &[&dyn Questions<C>], amounts: &Amounts) -> Result<Line, Box<Difference>> {
+    let across = cases(amounts, 19, amounts.turns, CasesOf::<C>::across);
+    ask("pass across", desks, across, |d, c| passed(d, c), |a| a.0.number)
+}
+
+/// What is asked of the ten-byte edition by the wide one's sizes.
+pub fn compare_narrow(desks: &[&dyn Desk], amounts: &Amounts) -> Result<Vec<Line>, Box<Difference>> {
+    let of_codes: Vec<&dyn Questions<Code>> = desks.iter().map(|desk| desk as &dyn Questions<Code>).collect();
+    Ok(vec![compare_across(&of_codes, amounts)?])
+}
+
+/// All questions, of every desk; with one desk alone it only counts and times.
+pub fn compare(desks: &[&dyn Desk], amounts: &Amounts) -> Result<Vec<Line>, Box<Difference>> {
+    let of_codes: Vec<&dyn Questions<Code>> = desks.iter().map(|desk| desk as &dyn Questions<Code>).collect();
+    let (mut lines, made) = compare_codes(&of_codes, amounts)?;
+    let stations = edges().into_iter().chain(cases(amounts, 7, amounts.sheets, Cases::station));
+    let byte_data = edges_of_bits().chain(cases(amounts, 9, amounts.byte_words, Cases::byte_data));
+    let byte_errors = cases(amounts, 10, amounts.byte_errors, Cases::byte_errors).flatten();
+    let byte_words = edges_of_bits().chain(cases(amounts, 11, amounts.byte_words, Cases::byte_word));
+    let inputs = cases(amounts, 6, amounts.inputs, Cases::program_input);
+    lines.extend([
         ask("sheet", desks, stations, |d, s| d.sheet(s), |a| a.number)?,
-        ask("make", desks, asked_shapes(), made, |a| a.0.number)?,
+        made,
         ask("byte write", desks, byte_data, |d, &data| d.byte_write(data), |a| a.number)?,
         ask("byte errors", desks, byte_errors, |d, &word| d.byte_read(word), |a| a.number)?,
         ask("byte read", desks, byte_words, |d, &word| d.byte_read(word), |a| a.number)?,
-        ask("small bad", desks, small_bad, recovered, |a| a.number)?,
-        ask("bad places", desks, bad, recovered, |a| a.number)?,
+    ]);
+    lines.extend(compare_bad(&of_codes, amounts)?);
+    lines.push(ask("mend", desks, inputs, |d, i| d.mend(i), |text| if text == "refused 12\n" { 12 } else { 0 })?);
+    Ok(lines)
+}
+
+/// The questions of the wide edition, of every desk; and what is asked of it by the ten-byte one's sizes.
+pub fn compare_wide(desks: &[&dyn Questions<WideCode>], amounts: &Amounts) -> Result<Vec<Line>, Box<Difference>> {
+    let (bad, across) = (compare_bad(desks, amounts)?, compare_across(desks, amounts)?);
+    let (mut lines, made) = compare_codes(desks, amounts)?;
+    lines.push(made);
+    lines.extend(bad);
+    lines.push(across);
+    Ok(lines)
+}
+
+/// The questions about bad places.
+fn compare_bad<C: Coded>(desks: &[&dyn Questions<C>], amounts: &Amounts) -> Result<Vec<Line>, Box<Difference>> {
+    let small_bad = cases(amounts, 16, amounts.small_bad, CasesOf::<C>::small_bad).flatten();
+    let bad = cases(amounts, 17, amounts.bad, CasesOf::<C>::bad);
+    let finds = cases(amounts, 18, amounts.finds, CasesOf::<C>::find);
+    Ok(vec![
+        ask("small bad", desks, small_bad, |d, b| recovered(d, b), |a| a.number)?,
+        ask("bad places", desks, bad, |d, b| recovered(d, b), |a| a.number)?,
         ask("find bad", desks, finds, |d, f| d.find_bad(&f.code, f.first, f.second), |a| a.number)?,
-        ask("mend", desks, inputs, |d, i| d.mend(i), |text| if text == "refused 12\n" { 12 } else { 0 })?,
     ])
 }
 
 /// The code word, where places are bad.
-fn recovered(desk: &dyn Desk, case: &BadCase) -> Recovered {
+fn recovered<C: Coded>(desk: &dyn Questions<C>, case: &BadCase<C>) -> Recovered<C::Data> {
     desk.recover(&case.word.code, case.word.data, case.word.check, &case.bad)
 }
 
@@ -259,14 +333,14 @@ impl Lent {
 }
 
 /// The answer and every byte of the list, guards too.
-fn explained(desk: &dyn Desk, case: &ListCase) -> (Explained, Vec<u8>) {
+fn explained<C: Coded>(desk: &dyn Questions<C>, case: &ListCase<C>) -> (Explained, Vec<u8>) {
     let ListCase { word, limit, list } = case;
     let mut list = Lent::new(list);
     (desk.explain(&word.code, word.data, word.check, *limit, list.bytes()), list.0)
 }
 
 /// The answer and every byte of the image and of the journal, guards too.
-fn passed(desk: &dyn Desk, case: &ImageCase) -> (Passed, Vec<u8>, Vec<u8>) {
+fn passed<C: Coded>(desk: &dyn Questions<C>, case: &ImageCase<C>) -> (Passed, Vec<u8>, Vec<u8>) {
     let ImageCase { code, image, journal, asked } = case;
     let (mut image, mut journal) = (Lent::new(image), Lent::new(journal));
     (desk.pass(code, image.bytes(), journal.bytes(), asked), image.0, journal.0)
@@ -275,7 +349,7 @@ fn passed(desk: &dyn Desk, case: &ImageCase) -> (Passed, Vec<u8>, Vec<u8>) {
 /// The answers of passes that go by the count handed back, and every byte of the image and of the journal, guards too.
 type InTurn = (Vec<Passed>, Vec<u8>, Vec<u8>);
 
-fn passed_in_turn(desk: &dyn Desk, case: &TurnsCase) -> InTurn {
+fn passed_in_turn<C: Coded>(desk: &dyn Questions<C>, case: &TurnsCase<C>) -> InTurn {
     let (mut image, mut journal) = (Lent::new(&case.image), Lent::new(&case.journal));
     let answers = turns(desk, case, &mut image, &mut journal, |_| ());
     (answers, image.0, journal.0)
@@ -283,9 +357,9 @@ fn passed_in_turn(desk: &dyn Desk, case: &TurnsCase) -> InTurn {
 
 /// Passes that go by the count handed back, from a journal of which nothing is in use; `seen` is shown the image after each
 /// that is done.
-fn turns(
-    desk: &dyn Desk,
-    case: &TurnsCase,
+fn turns<C: Coded>(
+    desk: &dyn Questions<C>,
+    case: &TurnsCase<C>,
     image: &mut Lent,
     journal: &mut Lent,
     mut seen: impl FnMut(&Lent),
@@ -303,7 +377,7 @@ fn turns(
 }
 
 /// The answer and every byte of the image and of the journal, guards too.
-fn put_back(desk: &dyn Desk, case: &BackCase) -> (PutBack, Vec<u8>, Vec<u8>) {
+fn put_back<C: Coded>(desk: &dyn Questions<C>, case: &BackCase) -> (PutBack, Vec<u8>, Vec<u8>) {
     let (mut image, mut journal) = (Lent::new(&case.image), Lent::new(&case.journal));
     (desk.put_back(image.bytes(), journal.bytes(), case.used), image.0, journal.0)
 }
@@ -326,13 +400,13 @@ fn counts_in_use(answers: &[Passed]) -> Vec<usize> {
     [0].into_iter().chain(done).collect()
 }
 
-fn history(desk: &dyn Desk, case: &TurnsCase) -> History {
+fn history<C: Coded>(desk: &dyn Questions<C>, case: &TurnsCase<C>) -> History {
     let passes = passed_in_turn(desk, case);
     let counts = counts_in_use(&passes.0);
     let (mut image, mut journal) = (Lent(passes.1.clone()), Lent(passes.2.clone()));
     let mut each_back = Vec::new();
     for ends in counts.windows(2).rev() {
-        let entries = journal.bytes().get_mut(ENTRY * ends[0]..ENTRY * ends[1]).unwrap_or(&mut []);
+        let entries = journal.bytes().get_mut(C::ENTRY * ends[0]..C::ENTRY * ends[1]).unwrap_or(&mut []);
         let answer = desk.put_back(image.bytes(), entries, ends[1] - ends[0]);
         each_back.push((answer, image.0.clone()));
     }
@@ -345,7 +419,7 @@ fn history(desk: &dyn Desk, case: &TurnsCase) -> History {
 
 /// What 02's request 104 promises of a history, by whole copies of the image and with no put-back: all entries are put
 /// back, pass by pass the copy from before it comes again, the journal stays, and the same passes do the same again.
-fn promised(case: &TurnsCase) -> History {
+fn promised<C: Coded>(case: &TurnsCase<C>) -> History {
     let (mut image, mut journal) = (Lent::new(&case.image), Lent::new(&case.journal));
     let mut copies = vec![image.0.clone()];
     let answers = turns(&Second, case, &mut image, &mut journal, |left| copies.push(left.0.clone()));
@@ -364,22 +438,37 @@ fn promised(case: &TurnsCase) -> History {
 /// What words of a made code hold: each is cut to its k data bits.
 const WORDS: [u64; 4] = [0, u64::MAX, 0xA5A5_A5A5_A5A5_A5A5, 0x0123_4567_89AB_CDEF];
 
-/// What is made, how its code is judged, and each word written to it and read from it: as written, with one flip and
-/// with two.
-fn made(desk: &dyn Desk, &(k, r): &(usize, usize)) -> (Made, Judged, Vec<(Written, [Reading; 3])>) {
+/// The lowest bits of a number.
+fn cut(number: u128, bits: usize) -> u128 {
+    (0..bits.min(128)).fold(0, |low, bit| low | number & 1 << bit)
+}
+
+/// What is made, how its code is judged, and each word written to it and read from it: as written, with one flip and with
+/// two; in the wide edition also with one on either side of the halves.
+fn made<C: Coded>(
+    desk: &dyn Questions<C>,
+    &(k, r): &(usize, usize),
+) -> (Made<C>, Judged, Vec<(Written, Vec<Reading<C::Data>>)>) {
     let made = desk.make(k, r);
     let code = made.code;
-    let places = (code.k + code.r).max(1);
-    let flipped = |data: u64, check: u16, flips: &[usize]| {
-        let as_written = u128::from(data) | u128::from(check) << code.k;
-        let word = flips.iter().fold(as_written, |word, flip| word ^ 1 << (flip % places));
-        desk.read(&code, (word & ((1 << code.k) - 1)) as u64, (word >> code.k) as u16)
+    let (k, r) = (code.k(), code.r());
+    let flipped = |data: u128, check: u16, flips: &[usize]| {
+        let (mut data, mut check) = (data, check);
+        for flip in flips {
+            match flip % (k + r).max(1) {
+                place if place < k => data ^= 1 << place,
+                place => check ^= 1 << (place - k),
+            }
+        }
+        desk.read(&code, C::Data::of(data), check)
     };
-    let words = WORDS.iter().enumerate().map(|(at, word)| {
-        let data = (u128::from(*word) & ((1 << code.k) - 1)) as u64;
-        let written = desk.write(&code, data);
-        let flips = [&[][..], &[at + code.k], &[at, 3 * at + code.r + 1]];
-        (written, flips.map(|places| flipped(data, written.check, places)))
+    let words = WORDS.iter().enumerate().map(|(at, &word)| {
+        let both = u128::from(word) | u128::from(word.rotate_left(7)) << 64;
+        let data = cut(both, k.min(C::PLACES));
+        let written = desk.write(&code, C::Data::of(data));
+        let flips = [&[][..], &[at + k], &[at, 3 * at + r + 1], &[63], &[64], &[127]];
+        let asked = if C::PLACES == 64 { 3 } else { flips.len() };
+        (written, flips[..asked].iter().map(|places| flipped(data, written.check, places)).collect())
     });
     (made, desk.judge(&code), words.collect())
 }

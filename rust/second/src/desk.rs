@@ -3,7 +3,7 @@
 use crate::answers::{Balanced, CardsChecked, Explained, Found, Judged, Passed, PutBack, Reading, Recovered};
 use crate::answers::{Wanted, Written};
 use crate::bytes::{ByteRead, ByteWritten};
-use crate::code::Code;
+use crate::code::{Code, Coded};
 use crate::make::Made;
 use crate::pass::Pass;
 use crate::sheet::{Sheeted, Station};
@@ -29,6 +29,78 @@ pub trait Desk {
     fn recover(&self, code: &Code, data: u64, check: u16, bad: &[usize]) -> Recovered;
     fn find_bad(&self, code: &Code, first: (u64, u16), second: (u64, u16)) -> Found;
     fn mend(&self, input: &[u8]) -> String;
+}
+
+/// Every question about the codes of one edition.
+pub trait Questions<C: Coded> {
+    fn name(&self) -> &'static str;
+    fn wanted(&self, k: usize) -> Wanted;
+    fn judge(&self, code: &C) -> Judged;
+    fn row_balance(&self, code: &C) -> Balanced;
+    fn write(&self, code: &C, data: C::Data) -> Written;
+    fn read(&self, code: &C, data: C::Data, check: u16) -> Reading<C::Data>;
+    fn explain(&self, code: &C, data: C::Data, check: u16, limit: usize, list: &mut [u8]) -> Explained;
+    fn card_check(&self, code: &C, b: usize) -> CardsChecked;
+    fn pass(&self, code: &C, image: &mut [u8], journal: &mut [u8], asked: &Pass) -> Passed;
+    fn put_back(&self, image: &mut [u8], journal: &mut [u8], used: usize) -> PutBack;
+    fn make(&self, k: usize, r: usize) -> Made<C>;
+    fn recover(&self, code: &C, data: C::Data, check: u16, bad: &[usize]) -> Recovered<C::Data>;
+    fn find_bad(&self, code: &C, first: (C::Data, u16), second: (C::Data, u16)) -> Found<C::Data>;
+}
+
+/// A desk answers those of the ten-byte edition.
+impl Questions<Code> for &dyn Desk {
+    fn name(&self) -> &'static str {
+        (**self).name()
+    }
+
+    fn wanted(&self, k: usize) -> Wanted {
+        (**self).wanted(k)
+    }
+
+    fn judge(&self, code: &Code) -> Judged {
+        (**self).judge(code)
+    }
+
+    fn row_balance(&self, code: &Code) -> Balanced {
+        (**self).row_balance(code)
+    }
+
+    fn write(&self, code: &Code, data: u64) -> Written {
+        (**self).write(code, data)
+    }
+
+    fn read(&self, code: &Code, data: u64, check: u16) -> Reading {
+        (**self).read(code, data, check)
+    }
+
+    fn explain(&self, code: &Code, data: u64, check: u16, limit: usize, list: &mut [u8]) -> Explained {
+        (**self).explain(code, data, check, limit, list)
+    }
+
+    fn card_check(&self, code: &Code, b: usize) -> CardsChecked {
+        (**self).card_check(code, b)
+    }
+
+    fn pass(&self, code: &Code, image: &mut [u8], journal: &mut [u8], asked: &Pass) -> Passed {
+        (**self).pass(code, image, journal, asked)
+    }
+
+    fn put_back(&self, image: &mut [u8], journal: &mut [u8], used: usize) -> PutBack {
+        (**self).put_back(image, journal, used)
+    }
+
+    fn make(&self, k: usize, r: usize) -> Made {
+        (**self).make(k, r)
+    }
+
+    fn recover(&self, code: &Code, data: u64, check: u16, bad: &[usize]) -> Recovered {
+        (**self).recover(code, data, check, bad)
+    }
+
+    fn find_bad(&self, code: &Code, first: (u64, u16), second: (u64, u16)) -> Found {
+        (**self).find_bad(code, first, second)
+    }
 }
 
 /// The second program.
@@ -102,5 +174,60 @@ impl Desk for Second {
 
     fn mend(&self, input: &[u8]) -> String {
         crate::mend(input)
+    }
+}
+
+/// In any edition it goes by the same brute force.
+impl<C: Coded> Questions<C> for Second {
+    fn name(&self) -> &'static str {
+        "second"
+    }
+
+    fn wanted(&self, k: usize) -> Wanted {
+        crate::wanted_in::<C>(k)
+    }
+
+    fn judge(&self, code: &C) -> Judged {
+        crate::judge(code)
+    }
+
+    fn row_balance(&self, code: &C) -> Balanced {
+        crate::row_balance(code)
+    }
+
+    fn write(&self, code: &C, data: C::Data) -> Written {
+        crate::write(code, data)
+    }
+
+    fn read(&self, code: &C, data: C::Data, check: u16) -> Reading<C::Data> {
+        crate::read(code, data, check)
+    }
+
+    fn explain(&self, code: &C, data: C::Data, check: u16, limit: usize, list: &mut [u8]) -> Explained {
+        crate::explain(code, data, check, limit, list)
+    }
+
+    fn card_check(&self, code: &C, b: usize) -> CardsChecked {
+        crate::card_check(code, b)
+    }
+
+    fn pass(&self, code: &C, image: &mut [u8], journal: &mut [u8], asked: &Pass) -> Passed {
+        crate::pass(code, image, journal, asked)
+    }
+
+    fn put_back(&self, image: &mut [u8], journal: &mut [u8], used: usize) -> PutBack {
+        crate::put_back_in::<C>(image, journal, used)
+    }
+
+    fn make(&self, k: usize, r: usize) -> Made<C> {
+        crate::make_in(k, r)
+    }
+
+    fn recover(&self, code: &C, data: C::Data, check: u16, bad: &[usize]) -> Recovered<C::Data> {
+        crate::recover(code, data, check, bad)
+    }
+
+    fn find_bad(&self, code: &C, first: (C::Data, u16), second: (C::Data, u16)) -> Found<C::Data> {
+        crate::find_bad(code, first, second)
     }
 }

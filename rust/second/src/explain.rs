@@ -1,7 +1,7 @@
 //! Explanations: every set of places whose flipping gives a clean word.
 
 use crate::answers::{Explained, Refusal};
-use crate::code::Code;
+use crate::code::Coded;
 use crate::word::{word_of, Accepted, NO_PLACE};
 
 /// A search through all sets of a given size, the lower places first.
@@ -42,17 +42,17 @@ pub fn explanations(code: &Accepted, word: &[bool], limit: usize) -> Vec<Vec<usi
 }
 
 /// Which sets of at most `limit` places explain the word as read? The list goes into `list`, two bytes an entry.
-pub fn explain(code: &Code, data: u64, check: u16, limit: usize, list: &mut [u8]) -> Explained {
-    try_explain(code, data, check, limit, list).unwrap_or_else(Explained::from)
+pub fn explain<C: Coded>(code: &C, data: C::Data, check: u16, limit: usize, list: &mut [u8]) -> Explained {
+    let explained = Accepted::new(code).and_then(|code| try_explain(&code, data.into(), check, limit, list));
+    explained.unwrap_or_else(Explained::from)
 }
 
-fn try_explain(code: &Code, data: u64, check: u16, limit: usize, list: &mut [u8]) -> Result<Explained, Refusal> {
-    let code = Accepted::new(code)?;
-    let word = word_of(&code, data, check)?;
+fn try_explain(code: &Accepted, data: u128, check: u16, limit: usize, list: &mut [u8]) -> Result<Explained, Refusal> {
+    let word = word_of(code, data, check)?;
     if limit > 2 {
         return Err(Refusal::plain(11));
     }
-    let found = explanations(&code, &word, limit);
+    let found = explanations(code, &word, limit);
     if found.len() > list.len() / 2 {
         return Err(Refusal { number: 10, told: found.len() });
     }

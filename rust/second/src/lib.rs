@@ -8,8 +8,10 @@
 //! Of passes in any order it says what they must leave, without running one.
 //!
 //! The questions are [`wanted`], [`judge`], [`row_balance`], [`write`], [`read`], [`explain`], [`card_check`], [`pass`],
-//! [`put_back`], [`sheet`], [`make`], [`byte_write`], [`byte_read`] and the program [`mend`]. [`Desk`] gathers them,
-//! [`Cases`] makes cases from a seed, [`compare`] asks several desks, and [`worked`] asks a desk the documents' own cases.
+//! [`put_back`], [`sheet`], [`make`], [`byte_write`], [`byte_read`] and the program [`mend`]. Those about a code, and the
+//! put-back, are answered in any edition ([`Coded`]); a word's data is u64 in the ten-byte one and u128 in the wide one. [`Desk`] gathers them,
+//! [`Questions`] those of one edition, [`Cases`] makes cases from a seed, [`compare`] and [`compare_wide`] ask several
+//! desks, and [`worked`] and [`worked_wide`] ask a desk the documents' own cases.
 
 mod answers;
 mod back;
@@ -32,19 +34,19 @@ mod worked;
 
 pub use answers::{Balanced, CardsChecked, Explained, Found, Judged, Passed, PutBack, Reading, Recovered, Refusal};
 pub use answers::{Wanted, Written};
-pub use back::put_back;
+pub use back::{put_back, put_back_in};
 pub use bad::{find_bad, recover};
 pub use bytes::{byte_read, byte_write, single_errors, spoilt, ByteRead, ByteWritten};
 pub use cards::card_check;
-pub use cases::Cases;
-pub use code::{judge, row_balance, wanted, Code};
-pub use compare::{compare, Amounts, Difference, Line};
-pub use desk::{Desk, Second};
+pub use cases::{Cases, CasesOf};
+pub use code::{judge, row_balance, wanted, wanted_in, Code, Coded, WideCode};
+pub use compare::{compare, compare_narrow, compare_wide, Amounts, Difference, Line};
+pub use desk::{Desk, Questions, Second};
 pub use explain::explain;
-pub use make::{make, Made};
+pub use make::{make, make_in, Made};
 pub use pass::{counted, pass, stamp_of, Pass};
 pub use program::{mend, run, sample_code};
 pub use random::Random;
 pub use sheet::{share, sheet, Limit, Sheeted, Station};
 pub use word::{read, write};
-pub use worked::worked;
+pub use worked::{worked, worked_wide};

@@ -2,10 +2,10 @@
 //! once and no pass run; a desk is asked for every order.
 
 use crate::cases::{OrdersCase, OverlapCase};
-use crate::code::Code;
+use crate::code::Coded;
 use crate::compare::Lent;
-use crate::desk::Desk;
-use crate::pass::{see, stamp_of, Pass, Seen, ENTRY, RECORD};
+use crate::desk::Questions;
+use crate::pass::{see, stamp_of, Pass, Seen};
 use crate::word::Accepted;
 
 /// An entry as bytes, and of the stamp nothing.
@@ -19,9 +19,9 @@ fn record_of(entry: &[u8]) -> usize {
 }
 
 /// Every record of the image, read.
-fn read_all(code: &Code, image: &[u8]) -> Vec<Seen> {
+fn read_all<C: Coded>(code: &C, image: &[u8]) -> Vec<Seen> {
     let code = Accepted::new(code).unwrap_or_else(|_| panic!("the case has a sound code"));
-    image.chunks_exact(RECORD).enumerate().map(|(record, bytes)| see(&code, record, bytes)).collect()
+    image.chunks_exact(C::RECORD).enumerate().map(|(record, bytes)| see(&code, record, bytes)).collect()
 }
 
 /// What passes over runs apart leave: every byte but those of stamps, guards too.
@@ -40,20 +40,20 @@ pub struct Left {
 }
 
 /// The journal before the entries from one count in use up to another, these, and what is behind them, guards too.
-fn parted(journal: &Lent, from: usize, to: usize) -> (Vec<u8>, Vec<Vec<u8>>, Vec<u8>) {
-    let (front, rest) = journal.halves(ENTRY.saturating_mul(from));
-    let (new, tail) = rest.split_at(ENTRY.saturating_mul(to.saturating_sub(from)).min(rest.len()));
-    (front.to_vec(), new.chunks_exact(ENTRY).map(<[u8]>::to_vec).collect(), tail.to_vec())
+fn parted<C: Coded>(journal: &Lent, from: usize, to: usize) -> (Vec<u8>, Vec<Vec<u8>>, Vec<u8>) {
+    let (front, rest) = journal.halves(C::ENTRY.saturating_mul(from));
+    let (new, tail) = rest.split_at(C::ENTRY.saturating_mul(to.saturating_sub(from)).min(rest.len()));
+    (front.to_vec(), new.chunks_exact(C::ENTRY).map(<[u8]>::to_vec).collect(), tail.to_vec())
 }
 
 /// What every order of the passes must leave: one and the same.
-pub fn promised_orders(case: &OrdersCase) -> Vec<Left> {
+pub fn promised_orders<C: Coded>(case: &OrdersCase<C>) -> Vec<Left> {
     let seen = read_all(&case.code, &case.image);
     let is_passed = |one: &&Seen| case.runs.iter().any(|&(start, end)| start <= one.record && one.record < end);
     let passed: Vec<&Seen> = seen.iter().filter(is_passed).collect();
     let mut image = case.image.clone();
     for one in &passed {
-        image[RECORD * one.record..][..RECORD].copy_from_slice(&one.after);
+        image[C::RECORD * one.record..][..C::RECORD].copy_from_slice(&one.after);
     }
     let entries: Vec<Vec<u8>> =
         passed.iter().filter(|one| one.verdict != 0).map(|one| unstamped(&one.entry(0))).collect();
@@ -61,13 +61,13 @@ pub fn promised_orders(case: &OrdersCase) -> Vec<Left> {
         let of = |verdict: usize| seen[start..end].iter().filter(|one| one.verdict == verdict).count();
         (0, [of(0), of(1), of(2), of(3), of(4), of(5)])
     };
-    let (front, _, tail) = parted(&Lent::new(&case.journal), case.used, case.used + entries.len());
+    let (front, _, tail) = parted::<C>(&Lent::new(&case.journal), case.used, case.used + entries.len());
     let answers = case.runs.iter().map(tally).collect();
     vec![Left { image: Lent::new(&image).all().to_vec(), front, tail, entries, is_stamped: true, answers }]
 }
 
 /// What one order of the passes leaves: the runs by their places in the case, in the order in which they are passed over.
-fn left_by(desk: &dyn Desk, case: &OrdersCase, order: &[usize]) -> Left {
+fn left_by<C: Coded>(desk: &dyn Questions<C>, case: &OrdersCase<C>, order: &[usize]) -> Left {
     let (mut image, mut journal) = (Lent::new(&case.image), Lent::new(&case.journal));
     let (mut used, mut stamps, mut answers) = (case.used, Vec::new(), vec![(0, [0; 6]); order.len()]);
     for (&run, &stamp) in order.iter().zip(&case.stamps) {
@@ -79,7 +79,7 @@ fn left_by(desk: &dyn Desk, case: &OrdersCase, order: &[usize]) -> Left {
         }
         answers[run] = (answer.number, answer.tally);
     }
-    let (front, mut new, tail) = parted(&journal, case.used, used);
+    let (front, mut new, tail) = parted::<C>(&journal, case.used, used);
     let is_stamped = new.iter().map(|entry| stamp_of(entry)).eq(stamps);
     new.sort_by_key(|entry| record_of(entry));
     let entries = new.iter().map(|entry| unstamped(entry)).collect();
@@ -95,7 +95,7 @@ fn orders_of(count: usize) -> Vec<Vec<usize>> {
 }
 
 /// All that the orders of the passes leave, each once: so one, where every order leaves the same.
-pub fn in_every_order(desk: &dyn Desk, case: &OrdersCase) -> Vec<Left> {
+pub fn in_every_order<C: Coded>(desk: &dyn Questions<C>, case: &OrdersCase<C>) -> Vec<Left> {
     let mut all = Vec::new();
     for left in orders_of(case.runs.len()).iter().map(|order| left_by(desk, case, order)) {
         if !all.contains(&left) {
@@ -124,13 +124,13 @@ pub struct InBoth {
 }
 
 /// The records in the runs of the first pass and of the last.
-fn in_both(case: &OverlapCase) -> std::ops::Range<usize> {
+fn in_both<C>(case: &OverlapCase<C>) -> std::ops::Range<usize> {
     let (first, last) = (case.passes[0], case.passes[case.passes.len() - 1]);
     first.0.max(last.0)..first.1.min(last.1)
 }
 
 /// What must come of them: a mended record is clean to the last pass, an unmended one is entered again.
-pub fn promised_overlap(case: &OverlapCase) -> Shared {
+pub fn promised_overlap<C: Coded>(case: &OverlapCase<C>) -> Shared {
     let seen = read_all(&case.code, &case.image);
     let in_both_runs = |record: usize| {
         let one = &seen[record];
@@ -142,20 +142,20 @@ pub fn promised_overlap(case: &OverlapCase) -> Shared {
 }
 
 /// What comes of them at this desk.
-pub fn both_passed(desk: &dyn Desk, case: &OverlapCase) -> Shared {
+pub fn both_passed<C: Coded>(desk: &dyn Questions<C>, case: &OverlapCase<C>) -> Shared {
     let (mut image, mut journal) = (Lent::new(&case.image), Lent::new(&case.journal));
     let (mut used, mut made) = (case.used, Vec::new());
     for &(start, end, stamp) in &case.passes {
         let answer = desk.pass(&case.code, image.bytes(), journal.bytes(), &Pass { start, end, used, stamp });
         let now = if answer.number == 0 { answer.used } else { used };
-        made.push((answer.number, parted(&journal, used, now).1));
+        made.push((answer.number, parted::<C>(&journal, used, now).1));
         used = now;
     }
     let ends = [&made[0], &made[made.len() - 1]];
     let in_both_runs = |record: usize| {
         let [first, last] = ends.map(|(_, new)| new.iter().find(|entry| record_of(entry) == record));
         let unstamped = |entry: Option<&Vec<u8>>| entry.map(|entry| unstamped(entry));
-        let bytes = image.halves(RECORD * record).1[..RECORD].to_vec();
+        let bytes = image.halves(C::RECORD * record).1[..C::RECORD].to_vec();
         InBoth { record, first: unstamped(first), last: unstamped(last), bytes }
     };
     Shared { numbers: ends.map(|(number, _)| *number), records: in_both(case).map(in_both_runs).collect() }

@@ -1,13 +1,8 @@
 //! The pass over a run of an image: every record is read first, then all that changes is written.
 
 use crate::answers::{Passed, Refusal};
-use crate::code::{switches, Code};
+use crate::code::{switches, Coded};
 use crate::word::{number, Accepted, NO_PLACE};
-
-/// Bytes of a record, of an entry of the journal, and of the longest image.
-pub const RECORD: usize = 10;
-pub const ENTRY: usize = 30;
-pub const IMAGE: usize = 65_530;
 
 /// What a pass is told: its run, from the record `start` up to `end`, which is not counted; how many entries of the journal
 /// are in use; and its stamp.
@@ -25,14 +20,14 @@ pub(crate) struct Seen {
     pub record: usize,
     pub verdict: usize,
     place: usize,
-    syndrome: u64,
+    syndrome: u128,
     before: Vec<u8>,
     pub after: Vec<u8>,
 }
 
 impl Seen {
     pub fn entry(&self, stamp: u32) -> Vec<u8> {
-        let (stamp, record) = (in_bytes(&switches(stamp.into(), 32)), in_bytes(&switches(self.record as u64, 16)));
+        let (stamp, record) = (in_bytes(&switches(stamp.into(), 32)), in_bytes(&switches(self.record as u128, 16)));
         let (reading, syndrome) = ([self.verdict as u8, self.place as u8], in_bytes(&switches(self.syndrome, 16)));
         [&stamp, &record, &reading[..], &syndrome, &self.before, &self.after].concat()
     }
@@ -46,12 +41,12 @@ fn in_bytes(row: &[bool]) -> Vec<u8> {
 /// Reads one record of the image.
 pub(crate) fn see(code: &Accepted, record: usize, bytes: &[u8]) -> Seen {
     let mut all: Vec<bool> = bytes.iter().flat_map(|&byte| switches(byte.into(), 8)).collect();
-    let ((verdict, place), syndrome) = match code.word(&all[..64], &all[64..]) {
+    let ((verdict, place), syndrome) = match code.word(&all[..code.places], &all[code.places..]) {
         Ok(word) => (code.verdict(&word), number(&code.syndrome(&word))),
         Err(_) => ((5, NO_PLACE), 0),
     };
     if place != NO_PLACE {
-        let bit = if place < code.k { place } else { 64 + place - code.k };
+        let bit = if place < code.k { place } else { code.places + place - code.k };
         all[bit] = !all[bit];
     }
     Seen { record, verdict, place, syndrome, before: bytes.to_vec(), after: in_bytes(&all) }
@@ -73,20 +68,20 @@ pub fn stamp_of(entry: &[u8]) -> u32 {
 }
 
 /// Mends the records of the run, and writes an entry for each that is not clean behind those in use.
-pub fn pass(code: &Code, image: &mut [u8], journal: &mut [u8], asked: &Pass) -> Passed {
+pub fn pass<C: Coded>(code: &C, image: &mut [u8], journal: &mut [u8], asked: &Pass) -> Passed {
     try_pass(code, image, journal, asked).unwrap_or_else(Passed::from)
 }
 
-fn try_pass(code: &Code, image: &mut [u8], journal: &mut [u8], asked: &Pass) -> Result<Passed, Refusal> {
+fn try_pass<C: Coded>(code: &C, image: &mut [u8], journal: &mut [u8], asked: &Pass) -> Result<Passed, Refusal> {
     let Pass { start, end, used, stamp } = *asked;
     let code = Accepted::new(code)?;
-    if image.len() % RECORD != 0 || image.len() > IMAGE {
+    if image.len() % C::RECORD != 0 || image.len() > C::IMAGE {
         return Err(Refusal::plain(12));
     }
-    if start > end || end > image.len() / RECORD {
+    if start > end || end > image.len() / C::RECORD {
         return Err(Refusal::plain(14));
     }
-    let mut entries: Vec<&mut [u8]> = journal.chunks_exact_mut(ENTRY).collect();
+    let mut entries: Vec<&mut [u8]> = journal.chunks_exact_mut(C::ENTRY).collect();
     if used > entries.len() {
         return Err(Refusal::plain(17));
     }
@@ -94,14 +89,15 @@ fn try_pass(code: &Code, image: &mut [u8], journal: &mut [u8], asked: &Pass) -> 
     if entries.last().map_or(false, |last| stamp < stamp_of(last)) {
         return Err(Refusal::plain(16));
     }
-    let seen: Vec<Seen> = (start..end).map(|record| see(&code, record, &image[RECORD * record..][..RECORD])).collect();
+    let bytes_of = |record: usize| C::RECORD * record..C::RECORD * (record + 1);
+    let seen: Vec<Seen> = (start..end).map(|record| see(&code, record, &image[bytes_of(record)])).collect();
     let noted: Vec<&Seen> = seen.iter().filter(|one| one.verdict != 0).collect();
     if left.len() < noted.len() {
         return Err(Refusal { number: 13, told: noted.len() });
     }
     for (one, room) in noted.iter().zip(left) {
         room.copy_from_slice(&one.entry(stamp));
-        image[RECORD * one.record..][..RECORD].copy_from_slice(&one.after);
+        image[bytes_of(one.record)].copy_from_slice(&one.after);
     }
     let mut tally = [0; 6];
     for (verdict, count) in tally.iter_mut().enumerate() {

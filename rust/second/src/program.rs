@@ -2,8 +2,8 @@
 //!
 //! It passes over the whole image at once, so that a program that goes run by run is compared with something else.
 
-use crate::code::Code;
-use crate::pass::{pass, Pass, ENTRY, IMAGE, RECORD};
+use crate::code::{Code, Coded};
+use crate::pass::{pass, Pass};
 use std::io::{self, Read, Write};
 
 /// Source document 002, figure 2.
@@ -14,14 +14,14 @@ pub fn sample_code() -> Code {
 /// What the program prints for this input. Its one pass has the stamp 0 and a journal of which nothing is in use.
 pub fn mend(input: &[u8]) -> String {
     let mut image = input.to_vec();
-    let mut journal = vec![0; IMAGE / RECORD * ENTRY];
-    let records = image.len() / RECORD;
+    let mut journal = vec![0; Code::IMAGE / Code::RECORD * Code::ENTRY];
+    let records = image.len() / Code::RECORD;
     let passed = pass(&sample_code(), &mut image, &mut journal, &Pass { end: records, ..Pass::default() });
     if passed.number != 0 {
         return format!("refused {}\n", passed.number);
     }
     let mut text = String::new();
-    for entry in journal.chunks(ENTRY).take(passed.used) {
+    for entry in journal.chunks(Code::ENTRY).take(passed.used) {
         let two_bytes = |at: usize| usize::from(entry[at]) + 256 * usize::from(entry[at + 1]);
         text += &format!("{} {} {} {}\n", two_bytes(4), entry[6], entry[7], two_bytes(8));
     }

@@ -1,13 +1,15 @@
 //! Words as n switches, and their writing and reading by flips.
 
 use crate::answers::{Reading, Refusal, Written};
-use crate::code::{accepted_columns, ones, switches, Code};
+use crate::code::{accepted_columns, ones, switches, Coded, Data};
 
 /// The place that is handed back where none is meant.
 pub const NO_PLACE: usize = 255;
 
 /// An accepted code, laid out for writing.
 pub struct Accepted {
+    /// How many data bits the code's edition has room for.
+    pub places: usize,
     pub k: usize,
     pub r: usize,
     /// For each check bit: the data bits whose column has that bit.
@@ -15,10 +17,11 @@ pub struct Accepted {
 }
 
 impl Accepted {
-    pub fn new(code: &Code) -> Result<Accepted, Refusal> {
+    pub fn new<C: Coded>(code: &C) -> Result<Accepted, Refusal> {
         let columns = accepted_columns(code)?;
-        let feeders_of = |row: usize| (0..code.k).filter(|&place| columns[place][row]).collect();
-        Ok(Accepted { k: code.k, r: code.r, feeders: (0..code.r).map(feeders_of).collect() })
+        let (k, r) = (code.k(), code.r());
+        let feeders_of = |row: usize| (0..k).filter(|&place| columns[place][row]).collect();
+        Ok(Accepted { places: C::PLACES, k, r, feeders: (0..r).map(feeders_of).collect() })
     }
 
     /// How many places a word has.
@@ -65,7 +68,7 @@ impl Accepted {
         (0..self.r).map(|j| self.written_bit(word, j) != word[self.k + j]).collect()
     }
 
-    /// The word of 64 data switches and 16 check switches, unless one of them is stray.
+    /// The word of all data switches of an edition and 16 check switches, unless one of them is stray.
     pub fn word(&self, data: &[bool], check: &[bool]) -> Result<Vec<bool>, Refusal> {
         if data[self.k..].contains(&true) || check[self.r..].contains(&true) {
             return Err(Refusal::plain(7));
@@ -75,38 +78,38 @@ impl Accepted {
 }
 
 /// The number whose bits these switches are, the lowest first.
-pub fn number(row: &[bool]) -> u64 {
-    row.iter().rev().fold(0, |number, &on| 2 * number + u64::from(on))
+pub fn number(row: &[bool]) -> u128 {
+    row.iter().rev().fold(0, |number, &on| 2 * number + u128::from(on))
 }
 
 /// The word that holds these data and check bits.
-pub fn word_of(code: &Accepted, data: u64, check: u16) -> Result<Vec<bool>, Refusal> {
-    code.word(&switches(data, 64), &switches(check.into(), 16))
+pub fn word_of(code: &Accepted, data: u128, check: u16) -> Result<Vec<bool>, Refusal> {
+    code.word(&switches(data, code.places), &switches(check.into(), 16))
 }
 
 /// Which check bits go with the data?
-pub fn write(code: &Code, data: u64) -> Written {
-    try_write(code, data).unwrap_or_else(Written::from)
+pub fn write<C: Coded>(code: &C, data: C::Data) -> Written {
+    try_write(code, data.into()).unwrap_or_else(Written::from)
 }
 
-fn try_write(code: &Code, data: u64) -> Result<Written, Refusal> {
+fn try_write<C: Coded>(code: &C, data: u128) -> Result<Written, Refusal> {
     let check = check_bits(&Accepted::new(code)?, data)?;
     Ok(Written { check, ..Written::default() })
 }
 
 /// The check bits that writing the data gives.
-pub fn check_bits(code: &Accepted, data: u64) -> Result<u16, Refusal> {
+pub fn check_bits(code: &Accepted, data: u128) -> Result<u16, Refusal> {
     let mut word = word_of(code, data, 0)?;
     code.write(&mut word);
     Ok(number(&word[code.k..]) as u16)
 }
 
 /// What is in the word as read?
-pub fn read(code: &Code, data: u64, check: u16) -> Reading {
-    try_read(code, data, check).unwrap_or_else(Reading::from)
+pub fn read<C: Coded>(code: &C, data: C::Data, check: u16) -> Reading<C::Data> {
+    try_read(code, data.into(), check).unwrap_or_else(Reading::from)
 }
 
-fn try_read(code: &Code, data: u64, check: u16) -> Result<Reading, Refusal> {
+fn try_read<C: Coded>(code: &C, data: u128, check: u16) -> Result<Reading<C::Data>, Refusal> {
     let code = Accepted::new(code)?;
     let mut word = word_of(&code, data, check)?;
     let (verdict, place) = code.verdict(&word);
@@ -115,5 +118,5 @@ fn try_read(code: &Code, data: u64, check: u16) -> Result<Reading, Refusal> {
         word[place] = !word[place];
     }
     let (data, check) = (number(&word[..code.k]), number(&word[code.k..]) as u16);
-    Ok(Reading { verdict, place, data, check, syndrome, ..Reading::default() })
+    Ok(Reading { verdict, place, data: C::Data::of(data), check, syndrome, ..Reading::default() })
 }

@@ -1,7 +1,7 @@
 //! The worked cases of documents 01 and 02: one text, tests/worked.txt, that any desk is asked. The text says what its lines mean.
 
-use crate::code::{ones, switches, Code};
-use crate::desk::Desk;
+use crate::code::{ones, switches, Code, Coded, Data, WideCode};
+use crate::desk::{Desk, Questions};
 use crate::pass::Pass;
 use std::fmt::UpperHex;
 use std::str::FromStr;
@@ -10,17 +10,28 @@ use std::str::FromStr;
 const FILL: u8 = 0xEE;
 
 /// What the questions are about; passes and put-backs leave image and journal to the next.
-struct Worked {
-    code: Code,
+struct Worked<C> {
+    code: C,
     image: Vec<u8>,
     journal: Vec<u8>,
 }
 
-/// Puts every worked case to the desk: the lines of the text that come out otherwise, none if all is well.
+/// Puts every worked case of the ten-byte edition to the desk: the lines of the text that come out otherwise, none if all
+/// is well.
 pub fn worked(desk: &dyn Desk) -> Vec<String> {
-    let mut worked = Worked { code: Code::of(&[], 0), image: Vec::new(), journal: Vec::new() };
+    worked_in::<Code>(&desk, |line| if line.starts_with("wide ") { None } else { Some(line) })
+}
+
+/// The same for the wide edition, whose lines begin with `wide`.
+pub fn worked_wide(desk: &dyn Questions<WideCode>) -> Vec<String> {
+    worked_in(desk, |line| line.strip_prefix("wide "))
+}
+
+fn worked_in<C: Coded>(desk: &dyn Questions<C>, own: fn(&'static str) -> Option<&'static str>) -> Vec<String> {
+    let mut worked = Worked { code: C::with(&[], 0, 0), image: Vec::new(), journal: Vec::new() };
     let mut otherwise = Vec::new();
-    for line in include_str!("../../../tests/worked.txt").lines().filter(|line| !line.starts_with('#')) {
+    let lines = include_str!("../../../tests/worked.txt").lines().filter(|line| !line.starts_with('#'));
+    for line in lines.filter_map(own) {
         match line.split_once('=') {
             Some((question, _)) => {
                 let answered = format!("{}={}", question, worked.ask(desk, question));
@@ -38,8 +49,8 @@ fn number<N: FromStr>(word: &str) -> N {
     word.parse().unwrap_or_else(|_| panic!("{} is no number", word))
 }
 
-fn data(word: &str) -> u64 {
-    u64::from_str_radix(word, 16).unwrap_or_else(|_| panic!("{} is no data", word))
+fn data(word: &str) -> u128 {
+    u128::from_str_radix(word, 16).unwrap_or_else(|_| panic!("{} is no data", word))
 }
 
 /// Numbers as they stand in an answer.
@@ -58,7 +69,7 @@ fn changed(bytes: &[u8]) -> &[u8] {
     &bytes[..end]
 }
 
-impl Worked {
+impl<C: Coded> Worked<C> {
     /// A line that says what the next questions are about.
     fn set(&mut self, line: &str) {
         let line = line.replace(':', " ");
@@ -66,12 +77,13 @@ impl Worked {
             [] => {}
             ["code", k, r, ref columns @ ..] => {
                 let columns: Vec<u16> = columns.iter().map(|column| number(column)).collect();
-                self.code = Code { k: number(k), ..Code::of(&columns, number(r)) };
+                self.code = C::with(&columns, number(k), number(r));
             }
             ["image", length, "bytes"] => self.image = vec![0; number(length)],
             ["image", ref pairs @ ..] => {
-                let record =
-                    |pair: &[&str]| [&data(pair[0]).to_le_bytes()[..], &number::<u16>(pair[1]).to_le_bytes()].concat();
+                let record = |pair: &[&str]| {
+                    [&data(pair[0]).to_le_bytes()[..C::RECORD - 2], &number::<u16>(pair[1]).to_le_bytes()].concat()
+                };
                 self.image = pairs.chunks(2).flat_map(record).collect();
             }
             ["journal", ref bytes @ ..] => {
@@ -83,7 +95,7 @@ impl Worked {
     }
 
     /// What the desk answers to a question, with a space before each number.
-    fn ask(&mut self, desk: &dyn Desk, question: &str) -> String {
+    fn ask(&mut self, desk: &dyn Questions<C>, question: &str) -> String {
         let code = &self.code;
         match question.split_whitespace().collect::<Vec<&str>>()[..] {
             ["wanted", from, to] => {
@@ -94,32 +106,41 @@ impl Worked {
             ["make", k, r] => {
                 let a = desk.make(number(k), number(r));
                 self.code = a.code;
-                let end = a.code.columns.iter().rposition(|&column| column != 0).map_or(0, |last| last + 1);
-                said(&[a.number, a.code.k, a.code.r]) + &said(&a.code.columns[..end])
+                let end = a.code.columns().iter().rposition(|&column| column != 0).map_or(0, |last| last + 1);
+                said(&[a.number, a.code.k(), a.code.r()]) + &said(&a.code.columns()[..end])
             }
             ["judge"] => {
                 let a = desk.judge(code);
                 said(&[a.number, a.told])
             }
             ["ones"] => {
-                let data: usize = code.columns[..code.k].iter().map(|&column| ones(&switches(column.into(), 16))).sum();
-                said(&[data + code.r])
+                let columns = &code.columns()[..code.k()];
+                let data: usize = columns.iter().map(|&column| ones(&switches(column.into(), 16))).sum();
+                said(&[data + code.r()])
             }
             ["balance"] => {
                 let a = desk.row_balance(code);
                 said(&[a.number, a.told]) + &said(&a.rows)
             }
             ["write", d] => {
-                let a = desk.write(code, data(d));
+                let a = desk.write(code, C::Data::of(data(d)));
                 said(&[a.number, a.told]) + &said(&[a.check])
             }
             ["read", d, c] => {
-                let a = desk.read(code, data(d), number(c));
-                said(&[a.number, a.told, a.verdict, a.place]) + &hex(&[a.data], 1) + &said(&[a.check, a.syndrome])
+                let a = desk.read(code, C::Data::of(data(d)), number(c));
+                said(&[a.number, a.told, a.verdict, a.place])
+                    + &hex(&[Into::<u128>::into(a.data)], 1)
+                    + &said(&[a.check, a.syndrome])
             }
             ["explain", d, c, limit, room] => {
-                let mut list = [FILL; 80];
-                let a = desk.explain(code, data(d), number(c), number(limit), &mut list[..number::<usize>(room)]);
+                let mut list = [FILL; 144];
+                let a = desk.explain(
+                    code,
+                    C::Data::of(data(d)),
+                    number(c),
+                    number(limit),
+                    &mut list[..number::<usize>(room)],
+                );
                 said(&[a.number, a.told, a.length]) + &said(changed(&list))
             }
             ["cards", b] => {
@@ -139,12 +160,13 @@ impl Worked {
             }
             ["recover", d, c, ref places @ ..] => {
                 let bad: Vec<usize> = places.iter().map(|place| number(place)).collect();
-                let a = desk.recover(code, data(d), number(c), &bad);
-                said(&[a.number, a.told]) + &hex(&[a.data], 1) + &said(&[a.check])
+                let a = desk.recover(code, C::Data::of(data(d)), number(c), &bad);
+                said(&[a.number, a.told]) + &hex(&[a.data.into()], 1) + &said(&[a.check])
             }
             ["find", d, c, other, others] => {
-                let a = desk.find_bad(code, (data(d), number(c)), (data(other), number(others)));
-                said(&[a.number, a.told]) + &hex(&[a.data], 1) + &said(&[a.check])
+                let a =
+                    desk.find_bad(code, (C::Data::of(data(d)), number(c)), (C::Data::of(data(other)), number(others)));
+                said(&[a.number, a.told]) + &hex(&[a.data.into()], 1) + &said(&[a.check])
             }
             ["left"] => hex(&self.image, 2),
             ["noted"] => hex(changed(&self.journal), 2),

@@ -1,6 +1,7 @@
 -- `make::make` meets its contract: by the number, a code of zeros or the code. Assumes nothing.
 use mathlib.Core.Path.{refl}
 use borrow.Author.Needs.{needs}
+use Rattle.make.specs.Made.{madeWith}
 use Rattle.make.proofs.Exactly.{refused-made, made-made}
 use Rattle.make.proofs.make.Statement.{statement}
 use Rattle.make.proofs.make.Tie as tie
@@ -15,13 +16,13 @@ returns : tie.Need-returns
 returns c =
     let m = c .before .before .make-in in
     let a = c .before .before .before .before .args in
-    refused-made (a .k) (a .r) (m .result) (m .last .0) (m .ensures .0) (m .ensures .1) (c .if1 .taken)
+    refused-made madeWith 64 (a .k) (a .r) (m .result) (m .last .0) (m .ensures .0) (m .ensures .1) (c .if1 .taken)
 
 returns-2 : tie.Need-returns-2
 returns-2 c =
     let m = c .before .before .make-in in
     let a = c .before .before .before .before .args in
-    made-made (a .k) (a .r) (m .result) (m .last .0) (m .ensures .0) (m .ensures .1) (c .if1 .left)
+    made-made madeWith 64 (a .k) (a .r) (m .result) (m .last .0) (m .ensures .0) (m .ensures .1) (c .if1 .left)
 
 pub make-spec : {M : Type 1} → statement M
 make-spec = tie.close (tie.spec slice-aggregate-make-in make-in-requires returns returns-2)

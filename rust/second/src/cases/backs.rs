@@ -1,13 +1,13 @@
 //! Images and journals to put back with, sound and damaged in every way, and histories of passes.
 
-use super::{Cases, TurnsCase, HUGE};
-use crate::code::Code;
-use crate::pass::{pass, Pass, ENTRY, IMAGE, RECORD};
+use super::images::record_of;
+use super::{CasesOf, TurnsCase, HUGE};
+use crate::code::Coded;
+use crate::pass::{pass, Pass};
 
-/// Where an entry has its record number, its bytes as read and its bytes as left.
+/// Where an entry has its record number and its bytes as read; those as left are behind them.
 const NUMBER: usize = 4;
-const READ: usize = ENTRY - 2 * RECORD;
-const LEFT: usize = ENTRY - RECORD;
+const READ: usize = 10;
 
 /// An image, a journal, and how many of its entries are in use.
 #[derive(Clone, Debug)]
@@ -18,12 +18,13 @@ pub struct BackCase {
 }
 
 impl BackCase {
-    fn entry(&mut self, at: usize) -> &mut [u8] {
-        &mut self.journal[ENTRY * at..ENTRY * (at + 1)]
+    /// The entry at `at`, of so many bytes.
+    fn entry(&mut self, size: usize, at: usize) -> &mut [u8] {
+        &mut self.journal[size * at..size * (at + 1)]
     }
 }
 
-impl Cases {
+impl<C: Coded> CasesOf<C> {
     /// What passes or single steps have left, with room behind the entries in use; then mostly something is damaged.
     pub fn back(&mut self) -> BackCase {
         let mut case = if self.random.once_in(4) { self.left_by_passes() } else { self.left_by_steps() };
@@ -52,22 +53,22 @@ impl Cases {
     /// Image and journal after any changes of any records, one after the other; the heads of entries are anything.
     fn left_by_steps(&mut self) -> BackCase {
         let records = match self.random.below(100) {
-            0 => IMAGE / RECORD,
+            0 => C::IMAGE / C::RECORD,
             1..=4 => 0,
             5..=14 => 1,
             15..=19 => 250 + self.random.below(100),
             _ => 2 + self.random.below(12),
         };
         let all_alike = self.random.once_in(4);
-        let mut image = if all_alike { vec![0; RECORD * records] } else { self.random.bytes(RECORD * records) };
+        let mut image = if all_alike { vec![0; C::RECORD * records] } else { self.random.bytes(C::RECORD * records) };
         let mut journal = Vec::new();
         let steps = if records == 0 { 0 } else { self.random.below(16) };
         for _ in 0..steps {
             let any = self.random.below(records);
             let record = self.random.pick(&[0, records - 1, any, any]);
-            let read = image[RECORD * record..][..RECORD].to_vec();
+            let read = image[C::RECORD * record..][..C::RECORD].to_vec();
             let left = self.changed_record(&read, &image);
-            image[RECORD * record..][..RECORD].copy_from_slice(&left);
+            image[C::RECORD * record..][..C::RECORD].copy_from_slice(&left);
             let mut head = self.random.bytes(READ);
             head[NUMBER..NUMBER + 2].copy_from_slice(&(record as u16).to_le_bytes());
             journal.extend([head, read, left].concat());
@@ -81,8 +82,8 @@ impl Cases {
         match self.random.below(4) {
             0 => {}
             1 => self.turn_bit(&mut left),
-            2 => left.copy_from_slice(&image[RECORD * self.random.below(image.len() / RECORD)..][..RECORD]),
-            _ => left = self.random.bytes(RECORD),
+            2 => left.copy_from_slice(&image[C::RECORD * self.random.below(image.len() / C::RECORD)..][..C::RECORD]),
+            _ => left = self.random.bytes(C::RECORD),
         }
         left
     }
@@ -97,18 +98,18 @@ impl Cases {
     /// Entries past those in use (any bytes, the last one again, or one that would match), and a tail that is no entry.
     fn add_room(&mut self, case: &mut BackCase) {
         for _ in 0..self.random.below(3) {
-            let mut entry = self.random.bytes(ENTRY);
-            if self.random.once_in(2) && case.image.len() >= RECORD {
+            let mut entry = self.random.bytes(C::ENTRY);
+            if self.random.once_in(2) && case.image.len() >= C::RECORD {
                 entry[NUMBER..NUMBER + 2].fill(0);
-                entry[LEFT..].copy_from_slice(&case.image[..RECORD]);
+                entry[READ + C::RECORD..].copy_from_slice(&case.image[..C::RECORD]);
             } else if self.random.once_in(2) && case.used > 0 {
-                entry.copy_from_slice(case.entry(case.used - 1));
+                entry.copy_from_slice(case.entry(C::ENTRY, case.used - 1));
             }
-            let end = ENTRY * case.used;
+            let end = C::ENTRY * case.used;
             case.journal.splice(end..end, entry);
         }
         if self.random.once_in(2) {
-            let tail = 1 + self.random.below(ENTRY - 1);
+            let tail = 1 + self.random.below(C::ENTRY - 1);
             case.journal.extend(self.random.bytes(tail));
         }
     }
@@ -116,14 +117,14 @@ impl Cases {
     /// One entry in use: its number (inside the image or outside), a bit as left, a bit as read, what is not judged, its
     /// place in the journal.
     fn damage_entry(&mut self, case: &mut BackCase) {
-        let used = case.used.min(case.journal.len() / ENTRY);
+        let used = case.used.min(case.journal.len() / C::ENTRY);
         if used == 0 {
             return;
         }
         let any = self.random.below(used);
         let at = self.random.pick(&[0, used - 1, any, any]);
-        let records = case.image.len() / RECORD;
-        let entry = case.entry(at);
+        let records = case.image.len() / C::RECORD;
+        let entry = case.entry(C::ENTRY, at);
         let number = u16::from_le_bytes([entry[NUMBER], entry[NUMBER + 1]]);
         let another = match self.random.below(8) {
             0..=2 => self.random.below(records + 1),
@@ -135,19 +136,19 @@ impl Cases {
         };
         match self.random.below(12) {
             0..=3 => entry[NUMBER..NUMBER + 2].copy_from_slice(&(another as u16).to_le_bytes()),
-            4 | 5 => self.turn_bit(&mut entry[LEFT..]),
-            6 | 7 => self.turn_bit(&mut entry[READ..LEFT]),
+            4 | 5 => self.turn_bit(&mut entry[READ + C::RECORD..]),
+            6 | 7 => self.turn_bit(&mut entry[READ..READ + C::RECORD]),
             8 => self.turn_bit(&mut entry[..NUMBER]),
             9 => self.turn_bit(&mut entry[NUMBER + 2..READ]),
-            10 => entry[READ..].rotate_left(RECORD),
-            _ if at > 0 => case.journal[ENTRY * (at - 1)..ENTRY * (at + 1)].rotate_left(ENTRY),
+            10 => entry[READ..].rotate_left(C::RECORD),
+            _ if at > 0 => case.journal[C::ENTRY * (at - 1)..C::ENTRY * (at + 1)].rotate_left(C::ENTRY),
             _ => {}
         }
     }
 
     /// The count in use, or the journal's room for it: one too many or too few, any, none, more than the room.
     fn damage_count(&mut self, case: &mut BackCase) {
-        let room = case.journal.len() / ENTRY;
+        let room = case.journal.len() / C::ENTRY;
         case.used = match self.random.below(10) {
             0..=2 => case.used.saturating_add(1),
             3 | 4 => case.used.saturating_sub(1),
@@ -156,7 +157,7 @@ impl Cases {
             7 => self.random.pick(&HUGE),
             8 => self.random.below(room + 1),
             _ => {
-                case.journal.truncate((ENTRY * case.used.min(room)).saturating_sub(1));
+                case.journal.truncate((C::ENTRY * case.used.min(room)).saturating_sub(1));
                 case.used
             }
         }
@@ -165,32 +166,35 @@ impl Cases {
     /// The image: a bit, some records fewer, a byte more or fewer, over the limit, none.
     fn damage_image(&mut self, case: &mut BackCase) {
         let length = case.image.len();
-        let fewer = RECORD * (1 + self.random.below(length / RECORD + 1));
+        let fewer = C::RECORD * (1 + self.random.below(length / C::RECORD + 1));
         match self.random.below(10) {
             0..=2 => self.turn_bit(&mut case.image),
             3 | 4 => case.image.truncate(length.saturating_sub(fewer)),
             5 => case.image.truncate(length.saturating_sub(1)),
             6 => case.image.resize(length + 1, 0),
-            7 => case.image.resize(length + 1 + self.random.below(RECORD), 0),
-            8 => case.image.resize(self.random.pick(&[IMAGE, IMAGE + 1, IMAGE + 6, IMAGE + RECORD, 2 * IMAGE]), 0),
+            7 => case.image.resize(length + 1 + self.random.below(C::RECORD), 0),
+            8 => case.image.resize(
+                self.random.pick(&[C::IMAGE, C::IMAGE + 1, C::IMAGE + 6, C::IMAGE + C::RECORD, 2 * C::IMAGE]),
+                0,
+            ),
             _ => case.image.clear(),
         }
     }
 
     /// Up to ten passes in a new journal: under one code or several, over runs that overlap, refused ones among them.
-    pub fn history(&mut self) -> TurnsCase {
+    pub fn history(&mut self) -> TurnsCase<C> {
         let codes = self.related_codes();
         let records = self.random.below(16);
         let mut image = Vec::new();
         for _ in 0..records {
             let code = self.random.pick(&codes);
             let word = self.word_under(&code);
-            image.extend([&word.data.to_le_bytes()[..], &word.check.to_le_bytes()].concat());
+            image.extend(record_of(&word));
         }
         let passes = self.random.below(11);
-        let ample = ENTRY * records * passes;
+        let ample = C::ENTRY * records * passes;
         let length =
-            if self.random.once_in(4) { self.random.below(ample + 1) } else { ample + self.random.below(ENTRY) };
+            if self.random.once_in(4) { self.random.below(ample + 1) } else { ample + self.random.below(C::ENTRY) };
         let journal = self.random.bytes(length);
         let stamps_fall = self.random.once_in(3);
         let mut stamp = self.random.below(300) as u32;
@@ -205,11 +209,11 @@ impl Cases {
     }
 
     /// One to three codes, mostly of one shape, so that what one has mended another finds damaged.
-    fn related_codes(&mut self) -> Vec<Code> {
+    fn related_codes(&mut self) -> Vec<C> {
         let first = self.sound_code();
         let mut codes = vec![first];
         for _ in 0..self.random.below(3) {
-            let alike = Code::of(&self.sound_columns(first.k, first.r), first.r);
+            let alike = C::with(&self.sound_columns(first.k(), first.r()), first.k(), first.r());
             codes.push(if self.random.once_in(4) { self.sound_code() } else { alike });
         }
         codes

@@ -1,11 +1,15 @@
 //! Codes: sound ones of every shape, and damaged ones.
 
-use super::{Cases, HUGE};
-use crate::code::Code;
+use super::{CasesOf, HUGE};
+use crate::code::{Code, Coded};
 
 /// Shapes that are asked more often: the fullest of each r, the sample's, the largest, the smallest.
 const FAVOURED: [(usize, usize); 10] =
     [(1, 3), (4, 4), (11, 5), (8, 5), (26, 6), (57, 7), (64, 8), (64, 16), (63, 16), (1, 16)];
+
+/// The same in the wide edition: past 64 data bits, and about 64 too.
+const WIDE_FAVOURED: [(usize, usize); 10] =
+    [(63, 8), (64, 8), (65, 8), (120, 8), (121, 9), (127, 9), (128, 9), (128, 16), (65, 16), (11, 5)];
 
 /// The columns below 2^r with an odd count of ones, three at least.
 pub fn allowed_columns(r: usize) -> Vec<u16> {
@@ -14,18 +18,23 @@ pub fn allowed_columns(r: usize) -> Vec<u16> {
 }
 
 /// Every (k, r) for which a code exists.
-pub fn shapes(columns: &[Vec<u16>]) -> Vec<(usize, usize)> {
-    (3..=16).flat_map(|r| (1..=columns[r].len().min(64)).map(move |k| (k, r))).collect()
+pub fn shapes(columns: &[Vec<u16>], most: usize) -> Vec<(usize, usize)> {
+    (3..=16).flat_map(|r| (1..=columns[r].len().min(most)).map(move |k| (k, r))).collect()
 }
 
 /// Every k and r that a code is asked to be made for: all within the limits, and many out of them.
 pub fn asked_shapes() -> impl Iterator<Item = (usize, usize)> {
-    (0..=70).chain(HUGE).flat_map(|k| (0..=20).chain(HUGE).map(move |r| (k, r)))
+    asked_shapes_in::<Code>()
 }
 
-impl Cases {
+/// The same in any edition.
+pub fn asked_shapes_in<C: Coded>() -> impl Iterator<Item = (usize, usize)> {
+    (0..=C::PLACES + 6).chain(HUGE).flat_map(|k| (0..=20).chain(HUGE).map(move |r| (k, r)))
+}
+
+impl<C: Coded> CasesOf<C> {
     /// A code, sound or damaged.
-    pub fn code(&mut self) -> Code {
+    pub fn code(&mut self) -> C {
         if self.random.once_in(2) {
             self.sound_code()
         } else {
@@ -34,15 +43,15 @@ impl Cases {
     }
 
     /// A sound code: each shape in turn, with favoured ones between.
-    pub fn sound_code(&mut self) -> Code {
+    pub fn sound_code(&mut self) -> C {
         let (k, r) = if self.made % 3 == 2 {
-            self.random.pick(&FAVOURED)
+            self.random.pick(if C::PLACES == 64 { &FAVOURED } else { &WIDE_FAVOURED })
         } else {
             self.shapes[(self.made - self.made / 3) % self.shapes.len()]
         };
         self.made += 1;
         let columns = self.sound_columns(k, r);
-        Code::of(&columns, r)
+        C::with(&columns, k, r)
     }
 
     /// k different allowed columns in one of five styles.
@@ -86,36 +95,36 @@ impl Cases {
     }
 
     /// Leaves something in one place past k, in the first or the last of them, or in many.
-    fn leave_past_k(&mut self, code: &mut Code) {
-        let past = code.k.min(64)..64;
+    fn leave_past_k(&mut self, code: &mut C) {
+        let past = code.k().min(C::PLACES)..C::PLACES;
         if past.is_empty() {
             return;
         }
         let anywhere = past.start + self.random.below(past.len());
-        let from = self.random.pick(&[past.start, 63, anywhere, anywhere]);
-        let first = code.columns[0];
+        let from = self.random.pick(&[past.start, C::PLACES - 1, anywhere, anywhere]);
+        let first = code.columns()[0];
         let left = match self.random.below(4) {
             0 => self.random.draw() as u16,
             1 => first,
             2 => 1 << self.random.below(16),
             _ => u16::MAX,
         };
-        code.columns[from] = left;
+        code.columns_mut()[from] = left;
         if self.random.once_in(3) {
-            code.columns[from..].fill(left);
+            code.columns_mut()[from..].fill(left);
         }
     }
 
     /// A sound code with one or two things done to it; now and then that leaves it sound.
-    pub fn damaged_code(&mut self) -> Code {
+    pub fn damaged_code(&mut self) -> C {
         let mut code = self.sound_code();
         if self.random.once_in(20) {
             return self.any_code();
         }
         for _ in 0..=self.random.below(2) {
             match self.random.below(10) {
-                0 => code.k = self.bad_k(),
-                1 => code.r = self.bad_r(),
+                0 => code = C::with(code.columns(), self.bad_k(), code.r()),
+                1 => code = C::with(code.columns(), code.k(), self.bad_r()),
                 2 | 3 => self.leave_past_k(&mut code),
                 _ => self.damage_column(&mut code),
             }
@@ -125,7 +134,7 @@ impl Cases {
 
     fn bad_k(&mut self) -> usize {
         if self.random.once_in(2) {
-            self.random.pick(&[0, 65, 66, 127, 128])
+            self.random.pick(&[0, C::PLACES + 1, C::PLACES + 2, 2 * C::PLACES - 1, 2 * C::PLACES])
         } else {
             self.random.pick(&HUGE)
         }
@@ -140,32 +149,33 @@ impl Cases {
     }
 
     /// Spoils one column among the first k.
-    fn damage_column(&mut self, code: &mut Code) {
-        let k = code.k.clamp(1, 64);
-        let r = code.r.clamp(3, 16);
+    fn damage_column(&mut self, code: &mut C) {
+        let k = code.k().clamp(1, C::PLACES);
+        let r = code.r().clamp(3, 16);
         let anywhere = self.random.below(k);
         let place = self.random.pick(&[0, k - 1, anywhere, anywhere, anywhere]);
         let low = 1u16 << self.random.below(r);
-        code.columns[place] = match self.random.below(8) {
-            0 => code.columns[place] ^ low,
+        let columns = code.columns_mut();
+        columns[place] = match self.random.below(8) {
+            0 => columns[place] ^ low,
             1 => 0,
             2 => 1 << self.random.below(16),
             3 => low,
-            4 => code.columns[self.random.below(k)],
-            5 => code.columns[place] | (1u32 << r) as u16,
-            6 => code.columns[place] | 1 << self.random.below(16),
+            4 => columns[self.random.below(k)],
+            5 => columns[place] | (1u32 << r) as u16,
+            6 => columns[place] | 1 << self.random.below(16),
             _ => self.random.draw() as u16,
         };
     }
 
     /// Any columns, any k and r near the allowed ones.
-    fn any_code(&mut self) -> Code {
-        let k = self.random.below(70);
+    fn any_code(&mut self) -> C {
+        let k = self.random.below(C::PLACES + 6);
         let r = self.random.below(20);
-        let mut columns = [0; 64];
-        for column in &mut columns {
+        let mut code = C::with(&[], k, r);
+        for column in code.columns_mut() {
             *column = (self.random.draw() >> self.random.below(16)) as u16;
         }
-        Code { columns, k, r }
+        code
     }
 }

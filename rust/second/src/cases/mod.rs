@@ -11,14 +11,14 @@ mod stations;
 mod tens;
 mod words;
 
-use crate::code::Code;
+use crate::code::{Code, Coded};
 use crate::random::Random;
 use crate::word::Accepted;
 use std::rc::Rc;
 
 pub use backs::BackCase;
 pub use bad::{sets_of_places, BadCase, FindCase};
-pub use codes::asked_shapes;
+pub use codes::{asked_shapes, asked_shapes_in};
 pub use images::{ImageCase, TurnsCase};
 pub use orders::{OrdersCase, OverlapCase};
 pub use stations::edges;
@@ -29,8 +29,11 @@ pub use words::{CardCase, ListCase, WordCase};
 /// would take for one inside.
 pub const HUGE: [usize; 7] = [1 << 8, (1 << 8) + 5, 1 << 16, (1 << 16) + 8, 1 << 32, (1 << 32) + 8, usize::MAX];
 
-/// A stream of cases.
-pub struct Cases {
+/// A stream of cases of the ten-byte edition, and of the questions that have no edition.
+pub type Cases = CasesOf<Code>;
+
+/// A stream of cases of an edition.
+pub struct CasesOf<C: Coded> {
     random: Random,
     /// Every (k, r) for which a code exists.
     shapes: Vec<(usize, usize)>,
@@ -41,24 +44,24 @@ pub struct Cases {
     /// Sound codes made so far.
     made: usize,
     /// The code that serves the next words, and how many more.
-    serving: Option<(Code, usize)>,
+    serving: Option<(C, usize)>,
     /// The last code that a word was made for, laid out if it is accepted.
-    laid_out: Option<(Code, Option<Rc<Accepted>>)>,
+    laid_out: Option<(C, Option<Rc<Accepted>>)>,
 }
 
-impl Cases {
-    pub fn new(seed: u64) -> Cases {
+impl<C: Coded> CasesOf<C> {
+    pub fn new(seed: u64) -> CasesOf<C> {
         let columns: Vec<Vec<u16>> = (0..=16).map(codes::allowed_columns).collect();
         let mut light = columns.clone();
         for list in &mut light {
             list.sort_by_key(|column| column.count_ones());
         }
-        let shapes = codes::shapes(&columns);
-        Cases { random: Random::new(seed), shapes, columns, light, made: 0, serving: None, laid_out: None }
+        let shapes = codes::shapes(&columns, C::PLACES);
+        CasesOf { random: Random::new(seed), shapes, columns, light, made: 0, serving: None, laid_out: None }
     }
 
     /// A code for words, lists, cards and images: mostly sound, and kept for `words` cases.
-    fn serving_code(&mut self, words: usize) -> Code {
+    fn serving_code(&mut self, words: usize) -> C {
         match self.serving.take() {
             Some((code, more)) if more > 0 => {
                 self.serving = Some((code, more - 1));
@@ -73,7 +76,7 @@ impl Cases {
     }
 
     /// The code, laid out if it is accepted.
-    fn laid_out(&mut self, code: &Code) -> Option<Rc<Accepted>> {
+    fn laid_out(&mut self, code: &C) -> Option<Rc<Accepted>> {
         match &self.laid_out {
             Some((last, accepted)) if last == code => accepted.clone(),
             _ => {

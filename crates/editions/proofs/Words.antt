@@ -3,65 +3,42 @@ use mathlib.Core.Path.{_≡_, refl, sym, ap, ap₂, subst, _∙_}
 use mathlib.Core.Logic.{_↔_}
 use mathlib.Core.List.{List}
 use Prim.Native.Nat.{ℕ, _^_, _<_}
-use native.Mathlib.Nat.{mod-eq-of-lt, div-eq-of-lt}
-use native.Mathlib.Omega.{arith}
 use lib.ListN.{length}
-use lib.Pow.{pow-mono}
 use Rattle.parity.specs.Odd.{oddIn, allRows}
 use Rattle.columns.specs.Mix.{mix}
-use Rattle.code.specs.declared.Code.{Code}
 use Rattle.code.specs.declared.Opened.{Opened}
-use Rattle.code.specs.Rule.{matrixOf}
-use Rattle.code.specs.Opened.{openedOf}
 use Rattle.code.proofs.Laying.{laid-columns}
 use Rattle.word.specs.declared.Word.{Word}
 use Rattle.verdict.specs.declared.Verdict.{Verdict}
 use Rattle.verdict.specs.declared.Verdict.the-variants.{Clean, Data, Check, Even, Odd, Stray}
-use Rattle.word.specs.Word.{dataOf, checkOf, inParts}
+use Rattle.word.specs.Word.{inParts}
 use Rattle.verdict.specs.Verdicts.{verdictOn, findingOf}
 use Rattle.word.specs.Verdicts.{readIn, syndromeIn}
 use Rattle.verdict.specs.Table.{VerdictTable}
 use Rattle.reading.specs.Reading.{givenReading, readingBy, readingOf}
 use Rattle.verdict.proofs.Exactly.{RowOf, verdict-row, verdict-table}
-use Rattle.mending.proofs.Parts.{data-fits}
 use Rattle.mending.proofs.Reading.{mendedNumber, mended-parts, read-number, data-inside}
 use Rattle.mending.proofs.Syndromes.{syndrome-number}
-use Rattle.desk.specs.declared.ReadWord.{ReadWord}
-use Rattle.desk.specs.Answers.{wordWith, narrowed}
-use Rattle.demands.specs.Definitions.{Unstrayed, read, HandsBack}
-use Rattle.demands.specs.Definitions as words
-use Rattle.demands.proofs.Codes.{opened-is, limits-of, places-length, sound-of}
+use Rattle.reading.specs.declared.Reading.{Reading}
+use Rattle.editions.specs.Given.{Given, opened, matrixOf, Unstrayed, read, HandsBack}
+use Rattle.editions.specs.Given as words
+use Rattle.editions.proofs.Codes.{opened-is, places-length, sound-of}
 
 -- what the verdict x on the word w is answered by
-pub record Answered (code : Code) (w : ℕ) (a : ReadWord) (x : Verdict) : Type 0 where
+pub record Answered (code : Given) (w : ℕ) (a : Reading) (x : Verdict) : Type 0 where
   pub number : a .number ≡ 0
   pub told : a .told ≡ 0
   pub verdict : a .verdict ≡ findingOf x .verdict
   pub place : a .place ≡ findingOf x .place
   pub hands : HandsBack code a (mendedNumber x w)
 
-module _ (code : Code) (a : words.Accepted code) where
+module _ (code : Given) (a : words.Accepted code) where
   -- the verdict on a word's syndrome
   abbrev pub verdictAt : ℕ → Verdict
   verdictAt w = verdictOn (oddIn (allRows (code .r))) (matrixOf code) (code .k) (mix (matrixOf code) w)
 
-  -- what stands in the first 64 bits is all of the data
-  narrow : (w : ℕ) → dataOf (code .k) w < 2 ^ 64
-  narrow w =
-      let few = limits-of code a .sized .few in
-      omega (arith, data-fits (code .k) w, pow-mono {i = code .k} {j = 64} few)
-
-  pub low-is : (w : ℕ) → inParts (code .k) w .low ≡ dataOf (code .k) w
-  low-is w = mod-eq-of-lt (narrow w)
-
-  pub parts-are : (w : ℕ) → wordWith (dataOf (code .k) w) (checkOf (code .k) w) ≡ inParts (code .k) w
-  parts-are w =
-      let low = low-is w in
-      let high : inParts (code .k) w .high ≡ 0 = div-eq-of-lt (narrow w) in
-      λ i. record { low = sym low i; high = sym high i; check = checkOf (code .k) w }
-
   pub reading-is : (x : Word)
-      → readingOf (openedOf code) x
+      → readingOf (opened code) x
       ≡ readingBy (readIn (allRows (code .r)) (matrixOf code) (code .k) x) (syndromeIn (matrixOf code) (code .k) x) (code .k) x
   reading-is x =
       ap (λ (o : Opened). readingOf o x) (opened-is code (a .number))
@@ -73,11 +50,6 @@ module _ (code : Code) (a : words.Accepted code) where
   RowAt w x =
       RowOf (allRows (code .r)) (matrixOf code) (code .k) (data-inside (allRows (code .r)) (sound-of code a)) (sound-of code a .good)
       (mix (matrixOf code) w) x
-
-  hands-back : (w s : ℕ) (x : Verdict) → HandsBack code (narrowed (givenReading x s (code .k) (inParts (code .k) w))) (mendedNumber x w)
-  hands-back w s x =
-      let e = mended-parts x (code .k) w in
-      record { data-bits = ap (λ (y : Word). y .low) e ∙ low-is (mendedNumber x w); check-bits = ap (λ (y : Word). y .check) e }
 
   -- every verdict but stray is an answer, and stray none of them is
   given : (w s : ℕ) (x : Verdict) → RowAt w x
@@ -102,25 +74,23 @@ module _ (code : Code) (a : words.Accepted code) where
     abbrev syndrome : ℕ
     syndrome = mix (matrixOf code) w
 
-    read-is : read code w ≡ narrowed (givenReading (verdictAt w) syndrome (code .k) (inParts (code .k) w))
+    read-is : read code w ≡ givenReading (verdictAt w) syndrome (code .k) (inParts (code .k) w)
     read-is =
-        ap narrowed
-        (ap (readingOf (openedOf code)) (parts-are w)
-        ∙ reading-is (inParts (code .k) w)
+        reading-is (inParts (code .k) w)
         ∙ ap₂ (λ (x : Verdict) (s : ℕ). readingBy x s (code .k) (inParts (code .k) w))
         (read-number (allRows (code .r)) (matrixOf code) (code .k) w (data-inside (allRows (code .r)) (sound-of code a)) inside)
         (syndrome-number (allRows (code .r)) (matrixOf code) (code .k) w (data-inside (allRows (code .r)) (sound-of code a)) inside)
-        ∙ given w syndrome (verdictAt w) row)
+        ∙ given w syndrome (verdictAt w) row
 
     -- WHAT A READING ANSWERS: the number of the verdict on the syndrome, its place, and the word with that place flipped
     pub answered : Answered code w (read code w) (verdictAt w)
     answered =
-        subst (λ (r : ReadWord). Answered code w r (verdictAt w)) (sym read-is)
-        (record { number = refl; told = refl; verdict = refl; place = refl; hands = hands-back w syndrome (verdictAt w) })
+        subst (λ (r : Reading). Answered code w r (verdictAt w)) (sym read-is)
+        (record { number = refl; told = refl; verdict = refl; place = refl; hands = mended-parts (verdictAt w) (code .k) w })
 
     -- the syndrome is handed back
     pub syndrome-told : read code w .syndrome ≡ mix (matrixOf code) w
-    syndrome-told = ap (λ (r : ReadWord). r .syndrome) read-is
+    syndrome-told = ap (λ (r : Reading). r .syndrome) read-is
 
     -- the same where the verdict is known
     pub answered-as : (x : Verdict) → verdictAt w ≡ x → Answered code w (read code w) x

@@ -1,0 +1,31 @@
+-- `desk::wide::desk_wide_pass` meets its contract: an opening, and the question. Assumes nothing.
+use borrow.Author.Needs.{needs}
+use Rattle.record.specs.Layout.{wideSize}
+use Rattle.asked.specs.Pass.{passOver, stateOf}
+use Rattle.desk.proofs.Handing.{handed}
+use Rattle.desk.proofs.wide.desk_wide_pass.Statement.{statement}
+use Rattle.desk.proofs.wide.desk_wide_pass.Tie as tie
+
+open-wide-requires : tie.Need-open-wide-requires
+open-wide-requires c κs = search needs
+
+pass-requires : tie.Need-pass-requires
+pass-requires c κs = search needs
+
+same-length : tie.Need-same-length
+same-length c = search needs
+
+same-length-2 : tie.Need-same-length-2
+same-length-2 c = search needs
+
+returns : tie.Need-returns
+returns c =
+    let x = c .before .before .before .before in
+    let opened = x .before .before .before in
+    let a = opened .before .before .before .args in
+    handed wideSize _ _ (passOver (a .start) (a .end) (a .stamp)) (stateOf (a .image .now) (a .journal .now) (a .used)) _ _ _
+    (opened .open-wide .ensures .0) (x .pass .ensures)
+
+pub desk-wide-pass-spec : {M : Type 1} → statement M
+desk-wide-pass-spec =
+    tie.close (tie.spec open-wide-requires pass-requires same-length same-length-2 returns)

@@ -1,0 +1,13 @@
+pub mod Codes
+pub mod Words
+pub mod OfRecords
+pub mod OfJudge
+pub mod OfMaking
+pub mod OfCodes
+pub mod OfWords
+pub mod OfLists
+pub mod OfCards
+pub mod OfPasses
+pub mod OfOrders
+pub mod OfPutBack
+pub mod OfBad
