@@ -130,5 +130,15 @@ int main(void) {
     FIELD(WideBadPlaces, number);
     FIELD(WideBadPlaces, told);
     FIELD(WideBadPlaces, word);
+    STRUCT(RowCode);
+    FIELD(RowCode, columns);
+    FIELD(RowCode, n);
+    FIELD(RowCode, r);
+    FIELD(RowCode, rows);
+    STRUCT(WideRowCode);
+    FIELD(WideRowCode, columns);
+    FIELD(WideRowCode, n);
+    FIELD(WideRowCode, r);
+    FIELD(WideRowCode, rows);
     return 0;
 }

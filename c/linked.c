@@ -744,6 +744,109 @@ static void longest_wide_image(void) {
     expect("desk_wide_pass: a record more is refused", a.number == DESK_IMAGE_LENGTH);
 }
 
+/* ---- codes with a set of rows: source document 002, figure 3, whose rows 1 to 4 are the set */
+
+static const uint16_t figure_3[] = {28, 14, 22, 26, 29, 3, 5, 9, 17, 2, 4, 8, 16};
+
+static DeskRowCode rows_of_figure_3(void) {
+    DeskRowCode code = {{0}, 13, 5, 30};
+    memcpy(code.columns, figure_3, sizeof figure_3);
+    return code;
+}
+
+static DeskWideRowCode wide_rows_of_figure_3(void) {
+    DeskWideRowCode code = {{0}, 13, 5, 30};
+    memcpy(code.columns, figure_3, sizeof figure_3);
+    return code;
+}
+
+static void row_fields(void) {
+    DeskRowCode code = rows_of_figure_3();
+    DeskJudgement told = desk_rows_judge(code);
+    expect("desk_rows_judge: accepted", told.number == DESK_DONE && told.told == 0);
+    code.columns[79] = 1;
+    told = desk_rows_judge(code);
+    expect("desk_rows_judge: the last place is seen", told.number == DESK_LEFTOVER && told.told == 79);
+    code = rows_of_figure_3();
+    code.rows = 31;
+    told = desk_rows_judge(code);
+    expect("desk_rows_judge: the set is seen", told.number == DESK_ROW_SET && told.told == 4);
+    code = rows_of_figure_3();
+
+    DeskRowBalance balance = desk_rows_row_balance(code);
+    expect("desk_rows_row_balance: every field", balance.number == 0 && balance.rows[0] == -3 && balance.rows[4] == 2 &&
+                                                     balance.rows[5] == 0 && balance.rows[15] == 0);
+    DeskCheckWord written = desk_rows_write(code, 0xFF);
+    expect("desk_rows_write: every field", written.number == 0 && written.told == 0 && written.check == 12);
+    DeskReadWord read = desk_rows_read(code, 0x03, 28);
+    expect("desk_rows_read: every field", read.number == 0 && read.verdict == DESK_DATA && read.place == 1 &&
+                                              read.data == 1 && read.check == 28 && read.syndrome == 14);
+    uint8_t list[4] = {7, 7, 7, 7};
+    DeskListing listing = desk_rows_explain(code, 0x03, 28, 1, list, 3);
+    expect("desk_rows_explain: every field and byte", listing.number == 0 && listing.length == 1 && list[0] == 1 &&
+                                                          list[1] == DESK_NO_PLACE && list[2] == 7 && list[3] == 7);
+    DeskCardCheck cards = desk_rows_cards(code, 4);
+    expect("desk_rows_cards: every field", cards.number == DESK_WEAK_CARD && cards.card == 0 && cards.mask == 7);
+    uint8_t image[DESK_RECORD] = {3, 0, 0, 0, 0, 0, 0, 0, 28, 0}, journal[DESK_ENTRY] = {0};
+    DeskPassAnswer passed = desk_rows_pass(code, image, sizeof image, 0, 1, journal, sizeof journal, 0, 9);
+    expect("desk_rows_pass: every field", passed.number == 0 && passed.used == 1 && passed.tally.data == 1);
+    expect("desk_rows_pass: image and journal", image[0] == 1 && journal[0] == 9 && journal[6] == DESK_DATA &&
+                                                    journal[7] == 1 && journal[8] == 14 && journal[20] == 1);
+    static const size_t bad[] = {1};
+    DeskRecovered recovered = desk_rows_recover(code, 0x02, 28, bad, 1);
+    expect("desk_rows_recover: every field", recovered.number == 0 && recovered.data == 1 && recovered.check == 28);
+    DeskBadPlaces found = desk_rows_find_bad(code, 0xFE, 29, 0, 0);
+    expect("desk_rows_find_bad: every field", found.number == 0 && found.data == 1 && found.check == 2);
+}
+
+static void wide_row_fields(void) {
+    DeskWideRowCode code = wide_rows_of_figure_3();
+    DeskJudgement told = desk_wide_rows_judge(code);
+    expect("desk_wide_rows_judge: accepted", told.number == DESK_DONE && told.told == 0);
+    code.columns[143] = 1;
+    told = desk_wide_rows_judge(code);
+    expect("desk_wide_rows_judge: the last place is seen", told.number == DESK_LEFTOVER && told.told == 143);
+    code = wide_rows_of_figure_3();
+
+    DeskRowBalance balance = desk_wide_rows_row_balance(code);
+    expect("desk_wide_rows_row_balance: every field", balance.number == 0 && balance.rows[0] == -3);
+    DeskCheckWord written = desk_wide_rows_write(code, 0xFF, 0);
+    expect("desk_wide_rows_write: every field", written.number == 0 && written.check == 12);
+    written = desk_wide_rows_write(code, 0xFF, 1);
+    expect("desk_wide_rows_write: the high half is seen", written.number == DESK_STRAY_BITS && written.check == 0);
+    DeskWideReadWord read = desk_wide_rows_read(code, 0x03, 0, 28);
+    expect("desk_wide_rows_read: every field", read.number == 0 && read.verdict == DESK_DATA && read.place == 1 &&
+                                                   read.word.low == 1 && read.word.high == 0 && read.word.check == 28);
+    uint8_t list[2];
+    DeskListing listing = desk_wide_rows_explain(code, 0x03, 0, 28, 1, list, 2);
+    expect("desk_wide_rows_explain: every field", listing.number == 0 && listing.length == 1 && list[0] == 1);
+    DeskCardCheck cards = desk_wide_rows_cards(code, 4);
+    expect("desk_wide_rows_cards: every field", cards.number == DESK_WEAK_CARD && cards.card == 0 && cards.mask == 7);
+    uint8_t image[DESK_WIDE_RECORD] = {3}, journal[DESK_WIDE_ENTRY] = {0};
+    image[16] = 28;
+    DeskPassAnswer passed = desk_wide_rows_pass(code, image, sizeof image, 0, 1, journal, sizeof journal, 0, 9);
+    expect("desk_wide_rows_pass: image, journal and tally",
+           passed.number == 0 && passed.used == 1 && passed.tally.data == 1 && image[0] == 1 && journal[10] == 3);
+    static const size_t bad[] = {1};
+    DeskWideRecovered recovered = desk_wide_rows_recover(code, 0x02, 0, 28, bad, 1);
+    expect("desk_wide_rows_recover: every field",
+           recovered.number == 0 && recovered.word.low == 1 && recovered.word.high == 0 && recovered.word.check == 28);
+    DeskWideBadPlaces found = desk_wide_rows_find_bad(code, (DeskWideWord){0xFE, 0, 29}, (DeskWideWord){0, 0, 0});
+    expect("desk_wide_rows_find_bad: every field", found.number == 0 && found.word.low == 1 && found.word.check == 2);
+}
+
+/* Figures 1 and 2 define the same words; figure 2 is the sample code. */
+static void same_check_bits(void) {
+    static const uint16_t figure_1[] = {28, 26, 25, 22, 21, 19, 30, 29, 17, 18, 20, 24, 16};
+    DeskRowCode one = {{0}, 13, 5, 16};
+    memcpy(one.columns, figure_1, sizeof figure_1);
+    int same = 1;
+    for (uint64_t data = 0; data < 256; data++) {
+        same &= desk_rows_write(one, data).check == desk_write(sample(), data).check;
+    }
+    expect("desk_rows_write: figures 1 and 2 write the same check bits for all 256 data words", same);
+}
+
 int main(void) {
     version();
     code_fields();
@@ -771,5 +874,8 @@ int main(void) {
     wide_passes();
     wide_bad_places();
     longest_wide_image();
+    row_fields();
+    wide_row_fields();
+    same_check_bits();
     return finish();
 }

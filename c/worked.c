@@ -1,5 +1,6 @@
 /* Prints tests/worked.txt (on standard input) again, each question with the answer of the archive. */
 #include "codes.h"
+#include "worked_rows.h"
 #include "worked_wide.h"
 
 #include <inttypes.h>
@@ -184,14 +185,14 @@ int main(void) {
     char line[LINE];
     while (fgets(line, sizeof line, stdin) != NULL) {
         char *answer = line[0] == '#' ? NULL : strchr(line, '=');
-        int is_wide = strncmp(line, "wide ", 5) == 0;
+        int is_wide = strncmp(line, "wide ", 5) == 0, is_rows = strncmp(line, "rows ", 5) == 0;
         if (answer == NULL) {
-            is_wide ? set_wide(line + 5) : set(line);
+            is_wide ? set_wide(line + 5) : is_rows ? set_rows(line + 5) : set(line);
             fputs(line, stdout);
         } else {
             *answer = '\0';
             printf("%s=", line);
-            is_wide ? ask_wide(line + 5) : ask(line);
+            is_wide ? ask_wide(line + 5) : is_rows ? ask_rows(line + 5) : ask(line);
             putchar('\n');
         }
     }

@@ -17,7 +17,7 @@
  *   used        entries of the journal, DESK_ENTRY bytes each: those in use before a call, and in a pass's answer those
  *               after it (in the wide edition DESK_WIDE_ENTRY bytes each)
  *   count       entries of the journal: those that were put back; handed in with `bad`, the places that it names
- *   told        with 3 to 6 and 21 a place, with 10 entries of the list, with 13 entries of the journal
+ *   told        with 3 to 6 and 21 a place, with 20 a reason, with 10 entries of the list, with 13 entries of the journal
  *
  * Time. A pass's stamp is any number that does not fall along a journal; what it counts is the caller's affair.
  *
@@ -59,7 +59,8 @@ extern "C" {
 /* The field `number` of an answer: exactly when, and what is told. It is the table of docs/refusals.txt. */
 enum DeskNumber {
     DESK_DONE = 0,            /* done */
-    DESK_DATA_BITS = 1,       /* k is 0 or over 64; wide edition: over 128 */
+    DESK_DATA_BITS = 1,       /* k is 0 or over 64; wide edition: over 128; with a set of rows k is n - r, and 0 where n
+                                 is below r */
     DESK_CHECK_BITS = 2,      /* r below 3 or over 16 */
     DESK_WIDE_COLUMN = 3,     /* a column is 2^r or more; told: first bad place */
     DESK_EVEN_COLUMN = 4,     /* a column has an even count of ones, 0 included; told: place */
@@ -84,7 +85,11 @@ enum DeskNumber {
     DESK_SHEET = 19,          /* device count 0 or over 65,535, word count 0 or over 65,535, mended above words, hours
                                  not finite or not above zero, a limit's figure not finite or below zero, a band upside
                                  down */
-    DESK_LEFTOVER = 21,       /* a place past k is not 0; told: first such place */
+    DESK_ROW_SET = 20,        /* codes with a set of rows, the first reason that holds: 1, the set is empty or names a row
+                                 at r or above; 2, a zero or repeated column; 3, the last r columns are not triangular
+                                 with ones on the diagonal; 4, a column has an even count of ones within the set; told:
+                                 reason */
+    DESK_LEFTOVER = 21,       /* a place past k is not 0; with a set of rows: past n; told: first such place */
     DESK_BAD_PLACES = 22,     /* more than three bad places, a repeat, or a place at n or above */
     DESK_NO_CODE_WORD = 23,   /* bad places: no code word differs from the word as read, outside them, in at most one
                                  place where none or one is bad, in none where two or three are */
@@ -124,6 +129,10 @@ enum DeskByteVerdict {
 #define DESK_WIDE_RECORD 18   /* data in 16, check bits in 2, low byte first */
 #define DESK_WIDE_ENTRY 46    /* as DESK_ENTRY, with 18 bytes as read and 18 as left */
 #define DESK_WIDE_IMAGE 65520 /* 3,640 records */
+
+/* Column places of a code with a set of rows, in either edition. */
+#define DESK_ROW_COLUMNS 80
+#define DESK_WIDE_ROW_COLUMNS 144
 
 /* A code: k data columns, each with row j as its bit j, and r check bits. Places past k hold 0. */
 typedef struct DeskCode {
@@ -324,6 +333,25 @@ typedef struct DeskWideBadPlaces {
     DeskWideWord word;
 } DeskWideBadPlaces;
 
+/*
+ * A code with a set of rows: n columns, the last r of them check columns, which need not be single ones; bit j of `rows` says
+ * that row j is in the set. Its k is n - r. Places past n hold 0.
+ */
+typedef struct DeskRowCode {
+    uint16_t columns[DESK_ROW_COLUMNS];
+    size_t n;
+    size_t r;
+    uint16_t rows;
+} DeskRowCode;
+
+/* The same in the wide edition, with 144 places. */
+typedef struct DeskWideRowCode {
+    uint16_t columns[DESK_WIDE_ROW_COLUMNS];
+    size_t n;
+    size_t r;
+    uint16_t rows;
+} DeskWideRowCode;
+
 /* The version of the archive: DESK_VERSION of the header that goes with it. */
 size_t desk_version(void);
 
@@ -448,6 +476,41 @@ DeskWideMade desk_wide_make(size_t k, size_t r);
 DeskWideRecovered desk_wide_recover(DeskWideCode code, uint64_t low, uint64_t high, uint16_t check, const size_t *bad,
                                     size_t count);
 DeskWideBadPlaces desk_wide_find_bad(DeskWideCode code, DeskWideWord first, DeskWideWord second);
+
+/*
+ * Codes with a set of rows, in both editions: every question that takes a code. Refused with 1, 2, 3 over all n columns, 20 and
+ * 21, then as the question above is. The syndrome is the exclusive or of the columns of all set bits, and writing solves for
+ * the check bits that make it 0. Verdict 3 is a syndrome that is not 0 and has an even count of ones within the set, 4 an
+ * odd count and no column. Cards begin again at place n - r. A code that desk_judge accepts is answered the same here, with its
+ * check columns behind its own and all r rows in the set. Images and journals are those of the edition.
+ */
+
+DeskJudgement desk_rows_judge(DeskRowCode code);
+DeskRowBalance desk_rows_row_balance(DeskRowCode code);
+DeskCheckWord desk_rows_write(DeskRowCode code, uint64_t data);
+DeskReadWord desk_rows_read(DeskRowCode code, uint64_t data, uint16_t check);
+DeskListing desk_rows_explain(DeskRowCode code, uint64_t data, uint16_t check, size_t limit, uint8_t *list,
+                              size_t list_length);
+DeskCardCheck desk_rows_cards(DeskRowCode code, size_t b);
+DeskPassAnswer desk_rows_pass(DeskRowCode code, uint8_t *image, size_t image_length, size_t start, size_t end,
+                              uint8_t *journal, size_t journal_length, size_t used, uint32_t stamp);
+
+DeskRecovered desk_rows_recover(DeskRowCode code, uint64_t data, uint16_t check, const size_t *bad, size_t count);
+DeskBadPlaces desk_rows_find_bad(DeskRowCode code, uint64_t first_data, uint16_t first_check, uint64_t second_data,
+                                 uint16_t second_check);
+
+DeskJudgement desk_wide_rows_judge(DeskWideRowCode code);
+DeskRowBalance desk_wide_rows_row_balance(DeskWideRowCode code);
+DeskCheckWord desk_wide_rows_write(DeskWideRowCode code, uint64_t low, uint64_t high);
+DeskWideReadWord desk_wide_rows_read(DeskWideRowCode code, uint64_t low, uint64_t high, uint16_t check);
+DeskListing desk_wide_rows_explain(DeskWideRowCode code, uint64_t low, uint64_t high, uint16_t check, size_t limit,
+                                   uint8_t *list, size_t list_length);
+DeskCardCheck desk_wide_rows_cards(DeskWideRowCode code, size_t b);
+DeskPassAnswer desk_wide_rows_pass(DeskWideRowCode code, uint8_t *image, size_t image_length, size_t start, size_t end,
+                                   uint8_t *journal, size_t journal_length, size_t used, uint32_t stamp);
+DeskWideRecovered desk_wide_rows_recover(DeskWideRowCode code, uint64_t low, uint64_t high, uint16_t check,
+                                         const size_t *bad, size_t count);
+DeskWideBadPlaces desk_wide_rows_find_bad(DeskWideRowCode code, DeskWideWord first, DeskWideWord second);
 
 #ifdef __cplusplus
 }

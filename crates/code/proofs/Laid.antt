@@ -39,7 +39,7 @@ accepted-of-standing (Repeated i) e = absurd (refused-no-acceptance e)
 accepted-of-standing (Leftover i) e = absurd (refused-no-acceptance e)
 
 -- what is within limits for an acceptance is so for any code
-laid-by : (most : ℕ) → most ≤ 128 → (s : Standing) (cs : List ℕ) (k rows : ℕ)
+pub laid-by : (most : ℕ) → most ≤ 128 → (s : Standing) (cs : List ℕ) (k rows : ℕ)
     → (s ≡ standing.Accepted → (k ≤ length cs) × (length cs ≤ k + 16) × (k ≤ most))
     → Laid (openedBy s cs k rows) × (openedBy s cs k rows .k ≤ most)
 laid-by most h standing.Accepted cs k rows f =

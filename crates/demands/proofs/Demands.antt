@@ -14,7 +14,9 @@ use Rattle.demands.proofs.OfBytes as bytes
 use Rattle.demands.proofs.OfPutBack as back
 use Rattle.demands.proofs.OfBad as bad
 use Rattle.demands.specs.Editions as of-editions
+use Rattle.demands.specs.Rows as of-rows
 use Rattle.demands.proofs.OfEditions as editions
+use Rattle.demands.proofs.OfRows as rows
 
 pub sizes : demands.Sizes
 sizes = tallies.sizes
@@ -345,3 +347,29 @@ wide-check-bits = editions.wide-check-bits
 
 pub wide-answers : of-editions.WideAnswers
 wide-answers = editions.wide-answers
+
+-- ---- codes with a chosen set of rows
+
+pub accepted-rows-exactly : of-rows.AcceptedRowsExactly
+accepted-rows-exactly = rows.accepted-rows-exactly
+
+pub judged-rows-exactly : of-rows.JudgedRowsExactly
+judged-rows-exactly = rows.judged-rows-exactly
+
+pub rows-promised : of-rows.RowsPromised
+rows-promised = rows.rows-promised
+
+pub wide-rows-promised : of-rows.WideRowsPromised
+wide-rows-promised = rows.wide-rows-promised
+
+pub rows-answers : of-rows.RowsAnswers
+rows-answers = rows.rows-answers
+
+pub wide-rows-answers : of-rows.WideRowsAnswers
+wide-rows-answers = rows.wide-rows-answers
+
+pub same-answers : of-rows.SameAnswers
+same-answers = rows.same-answers
+
+pub same-wide-answers : of-rows.SameWideAnswers
+same-wide-answers = rows.same-wide-answers

@@ -1,4 +1,5 @@
 pub mod OfEditions
+pub mod OfRows
 pub mod Narrow
 pub mod OfJudge
 pub mod OfMaking

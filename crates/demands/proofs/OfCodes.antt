@@ -6,7 +6,7 @@ use Rattle.editions.specs.Given.{tenBytes, CodeOf}
 use Rattle.editions.proofs.OfCodes as of-any
 use Rattle.demands.specs.Definitions.{Accepted, Stored}
 use Rattle.demands.specs.Demands as demands
-use Rattle.demands.specs.Editions.{narrow}
+use Rattle.demands.specs.Editions.{narrow, narrowCode}
 use Rattle.demands.proofs.Narrow.{handed, accepted, accepted-back}
 use Rattle.demands.proofs.OfEditions.{ten-known}
 
@@ -22,12 +22,12 @@ code-of k r c =
 pub check-bits-least : demands.CheckBitsLeast
 check-bits-least k some few =
     let x = of-any.check-bits-least tenBytes ten-known k some few in
-    (x .0, code-of k _ (x .1), λ code a e. x .2 (narrow code) (accepted code a) e)
+    (x .0, code-of k _ (x .1), λ code a e. x .2 (narrowCode code) (accepted code a) e)
 
 pub check-bits-room : demands.CheckBitsRoom
 check-bits-room k r some few least top =
     let x = of-any.check-bits-room tenBytes ten-known k r some few least top in (
-      λ c. of-any.room-of (narrow (c .0)) (accepted (c .0) (c .2)) k r (c .3) (c .4),
+      λ c. of-any.room-of (narrowCode (c .0)) (accepted (c .0) (c .2)) k r (c .3) (c .4),
       λ h. code-of k r (x .1 h),
     )
 

@@ -8,7 +8,7 @@ use lib.Dec.{leb}
 use Rattle.wanted.specs.Wanted.{bandOf}
 use Rattle.wanted.proofs.Bands.{wanted-inside}
 use Rattle.make.specs.Made.{makeNumber, makingIn, wideMadeWith}
-use Rattle.editions.specs.Given.{Edition, Known, tenBytes, eighteenBytes, Given, madeWith}
+use Rattle.editions.specs.Given.{Edition, Known, tenBytes, eighteenBytes, Given, HsiaoCode, given, madeWith}
 use Rattle.editions.proofs.OfRecords as records
 use Rattle.editions.proofs.OfJudge as judge
 use Rattle.editions.proofs.OfCodes as codes
@@ -21,7 +21,7 @@ use Rattle.editions.proofs.OfOrders as orders
 use Rattle.editions.proofs.OfPutBack as back
 use Rattle.editions.proofs.OfBad as bad
 use Rattle.demands.specs.Editions as demands
-use Rattle.demands.specs.Editions.{Promised, wideMade}
+use Rattle.demands.specs.Editions.{PromisedOfAny, Promised, wideMade}
 
 pub ten-known : Known tenBytes
 ten-known = record { most = omega arith; halves = omega arith; held = refl }
@@ -29,33 +29,16 @@ ten-known = record { most = omega arith; halves = omega arith; held = refl }
 pub wide-known : Known eighteenBytes
 wide-known = record { most = omega arith; halves = omega arith; held = refl }
 
--- any edition that is known, however its codes are handed about
-promised : {C : Type 0} (e : Edition) (given : C → Given) → Known e → Promised e given
-promised e given known = record {
-  records-read = records.records-read e known;
-  entries-read = records.entries-read e known;
-  accepted-exactly = λ code. judge.accepted-exactly (given code);
-  three-ones = λ code. judge.three-ones (given code);
-  judged-exactly = λ code. judge.judged-exactly (given code);
-  check-bits-refused = codes.check-bits-refused e;
-  check-bits-least = codes.check-bits-least e known;
-  check-bits-room = codes.check-bits-room e known;
+-- any family, however its codes are handed about
+pub of-any : {C : Type 0} (given : C → Given) → PromisedOfAny given
+of-any given = record {
   balance-refuses = λ code. codes.balance-refuses (given code);
   balance-rows = λ code. codes.balance-rows (given code);
   balances-add-up = λ code. codes.balances-add-up (given code);
-  making-exactly = making.making-exactly e;
-  made-accepted = making.made-accepted-code e known;
-  made-in-order = making.made-in-order e;
-  made-least = λ code. making.made-least-code (given code);
-  making-wanted = making.making-wanted e known;
   writing-refuses = λ code. words.writing-refuses (given code);
-  writing-bits = λ code. words.writing-bits (given code);
   reading-refuses = λ code. words.reading-refuses (given code);
   clean-exactly = λ code. words.clean-exactly (given code);
   clean-as-read = λ code. words.clean-as-read (given code);
-  verdicts-exactly = λ code. words.verdicts-exactly (given code);
-  place-named = λ code. words.place-named (given code);
-  syndrome-told = λ code. words.syndrome-told (given code);
   one-flip = λ code. words.one-flip (given code);
   two-flips = λ code. words.two-flips (given code);
   mended-clean = λ code. words.mended-clean (given code);
@@ -71,14 +54,12 @@ promised e given known = record {
   cards-refuse = λ code. cards.cards-refuse (given code);
   card-flagged = λ code. cards.flagged (given code);
   pass-refuses = λ code. passes.pass-refuses (given code);
-  askable-exactly = passes.askable-exactly e;
   pass-empty = λ code. passes.pass-empty (given code);
   pass-outside = λ code. passes.pass-outside (given code);
   pass-of-run = λ code. passes.of-run (given code);
   pass-records = λ code. passes.pass-records (given code);
   pass-entries = λ code. passes.pass-entries (given code);
   pass-applied = λ code. passes.pass-applied (given code);
-  stamps-rise = passes.stamps-rise e;
   pass-counts = λ code. passes.pass-counts (given code);
   pass-again = λ code. passes.pass-again (given code);
   pass-in-two = λ code. passes.pass-in-two (given code);
@@ -87,11 +68,6 @@ promised e given known = record {
   order-tallies = λ code. orders.order-tallies (given code);
   two-clerks = λ code. orders.two-clerks (given code);
   shared-record = λ code. orders.shared-record (given code);
-  put-back-refuses = back.put-back-refuses e;
-  put-back-exactly = back.put-back-exactly e;
-  put-back-others = back.put-back-others e;
-  put-back-restores = back.put-back-restores e;
-  passed-again = back.passed-again e;
   recovering-refuses = λ code. bad.recovering-refuses (given code);
   recovered-exactly = λ code. bad.recovered-exactly (given code);
   recovered-only = λ code. bad.recovered-only (given code);
@@ -103,13 +79,46 @@ promised e given known = record {
   found-exactly = λ code. bad.found-exactly (given code);
   stuck-found = λ code. bad.stuck-found (given code);
   found-recovered = λ code. bad.found-recovered (given code);
+  writing-solves = λ code. words.writing-solves (given code);
+  verdicts-by-syndrome = λ code. words.verdicts-by-syndrome (given code);
+  syndrome-named = λ code. words.syndrome-named (given code);
+}
+
+-- any edition that is known, however its codes of Hsiao's family are handed about
+promised : {C : Type 0} (e : Edition) (own : C → HsiaoCode) → Known e → Promised e own
+promised e own known = record {
+  any = of-any (λ code. given (own code));
+  records-read = records.records-read e known;
+  entries-read = records.entries-read e known;
+  accepted-exactly = λ code. judge.accepted-exactly (own code);
+  three-ones = λ code. judge.three-ones (own code);
+  judged-exactly = λ code. judge.judged-exactly (own code);
+  check-bits-refused = codes.check-bits-refused e;
+  check-bits-least = codes.check-bits-least e known;
+  check-bits-room = codes.check-bits-room e known;
+  making-exactly = making.making-exactly e;
+  made-accepted = making.made-accepted-code e known;
+  made-in-order = making.made-in-order e;
+  made-least = λ code. making.made-least-code (own code);
+  making-wanted = making.making-wanted e known;
+  writing-bits = λ code. words.writing-bits (own code);
+  verdicts-exactly = λ code. words.verdicts-exactly (own code);
+  place-named = λ code. words.place-named (own code);
+  syndrome-told = λ code. words.syndrome-told (own code);
+  askable-exactly = passes.askable-exactly e;
+  stamps-rise = passes.stamps-rise e;
+  put-back-refuses = back.put-back-refuses e;
+  put-back-exactly = back.put-back-exactly e;
+  put-back-others = back.put-back-others e;
+  put-back-restores = back.put-back-restores e;
+  passed-again = back.passed-again e;
 }
 
 pub ten-bytes-promised : demands.TenBytesPromised
-ten-bytes-promised = promised tenBytes demands.narrow ten-known
+ten-bytes-promised = promised tenBytes demands.narrowCode ten-known
 
 pub wide-promised : demands.WidePromised
-wide-promised = promised eighteenBytes demands.wide wide-known
+wide-promised = promised eighteenBytes demands.wideCode wide-known
 
 -- ---- in numbers
 

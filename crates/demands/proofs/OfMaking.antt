@@ -6,20 +6,20 @@ use Rattle.code.specs.Rule.{matrixOf}
 use Rattle.balance.specs.Balance.{allOnes}
 use Rattle.make.specs.declared.Made.{Made}
 use Rattle.make.specs.Made.{makeNumber, makingIn, makingBy}
-use Rattle.editions.specs.Given.{tenBytes, Given, MadeCode}
+use Rattle.editions.specs.Given.{tenBytes, HsiaoCode, given, MadeCode}
 use Rattle.editions.specs.Given as any
 use Rattle.editions.specs.Promises as promises
 use Rattle.editions.proofs.OfMaking as of-any
 use Rattle.desk.specs.Answers.{madeOf}
 use Rattle.demands.specs.Making.{noCode}
 use Rattle.demands.specs.Demands as demands
-use Rattle.demands.specs.Editions.{narrow}
+use Rattle.demands.specs.Editions.{narrowCode}
 use Rattle.demands.proofs.Narrow.{accepted, accepted-back}
 use Rattle.demands.proofs.OfEditions.{ten-known}
 
 -- what is made, as it is handed about
 abbrev handed : Made → MadeCode
-handed m = record { number = m .number; code = narrow (m .code) }
+handed m = record { number = m .number; code = narrowCode (m .code) }
 
 abbrev handed-back : MadeCode → Made
 handed-back m = record { number = m .number; code = record { columns = m .code .columns; k = m .code .k; r = m .code .r } }
@@ -39,7 +39,7 @@ module _ (k r : ℕ) where
   same-refusal n x = (λ e. x .0 (made-is ∙ ap handed e), λ p. ap handed-back (sym made-is ∙ x .1 p))
 
   -- a fact of the code that is made
-  of-made : (P : Given → Type 0) → P (any.madeOf tenBytes k r .code) → P (narrow (madeOf k r .code))
+  of-made : (P : HsiaoCode → Type 0) → P (any.madeOf tenBytes k r .code) → P (narrowCode (madeOf k r .code))
   of-made P p = subst (λ (m : MadeCode). P (m .code)) made-is p
 
 pub making-exactly : demands.MakingExactly
@@ -54,19 +54,19 @@ making-exactly k r =
 pub made-accepted-code : demands.MadeAccepted
 made-accepted-code k r e =
     let y = of-any.made-accepted-code tenBytes ten-known k r (number-is k r ∙ e) in
-    let x = of-made k r (λ (given : Given). promises.MadeFor given k r) y in
+    let x = of-made k r (λ (made : HsiaoCode). promises.MadeFor made k r) y in
     (accepted-back (madeOf k r .code) (x .0), x .1, x .2, x .3, x .4)
 
 pub made-in-order : demands.MadeInOrder
 made-in-order k r e =
-    of-made k r (λ (given : Given). promises.Ordered (given .columns) k r) (of-any.made-in-order tenBytes k r (number-is k r ∙ e))
+    of-made k r (λ (made : HsiaoCode). promises.Ordered (made .columns) k r) (of-any.made-in-order tenBytes k r (number-is k r ∙ e))
 
 pub made-least-code : demands.MadeLeast
 made-least-code code a =
     let k = code .k in
     let r = code .r in
-    let x = of-any.made-least-code (narrow code) (accepted code a) in
-    (sym (number-is k r) ∙ x .0, of-made k r (λ (given : Given). allOnes (any.matrixOf given) ≤ allOnes (matrixOf code)) (x .1))
+    let x = of-any.made-least-code (narrowCode code) (accepted code a) in
+    (sym (number-is k r) ∙ x .0, of-made k r (λ (made : HsiaoCode). allOnes (any.matrixOf (given made)) ≤ allOnes (matrixOf code)) (x .1))
 
 pub making-wanted : demands.MakingWanted
 making-wanted k r limits =

@@ -26,7 +26,7 @@ use Rattle.at_record.specs.Outcome as outcome
 use Rattle.at_record.specs.Outcome.{wordIn, seen}
 use Rattle.asked.specs.Pass.{Pass, State}
 use Rattle.pass.specs.Pass.{readerOf}
-use Rattle.editions.specs.Given.{tenBytes}
+use Rattle.editions.specs.Given.{tenBytes, hsiao}
 use Rattle.editions.specs.Given as any
 use Rattle.editions.proofs.Codes.{columns-are, data-is, limits-of, places-length}
 use Rattle.editions.proofs.OfPasses as of-any
@@ -119,7 +119,7 @@ pass-applied code p s small done = of-any.pass-applied (narrow code) p s small d
 -- ---- stamps
 
 abbrev pub turn-of : Turn → any.Turn
-turn-of x = record { columns = x .code .columns; k = x .code .k; r = x .code .r; pass = x .pass }
+turn-of x = record { family = hsiao; columns = x .code .columns; k = x .code .k; r = x .code .r; pass = x .pass }
 
 abbrev pub turns-of : List Turn → List any.Turn
 turns-of [] = []

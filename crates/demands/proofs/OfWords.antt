@@ -10,14 +10,14 @@ use Rattle.editions.proofs.OfWords as of-any
 use Rattle.desk.specs.Answers.{wordWith, narrowed}
 use Rattle.demands.specs.Definitions.{Accepted, placesOf, read, HandsBack, Clean}
 use Rattle.demands.specs.Demands as demands
-use Rattle.demands.specs.Editions.{narrow}
+use Rattle.demands.specs.Editions.{narrow, narrowCode}
 use Rattle.demands.proofs.Narrow.{accepted, strays, fits, verdict-is, place-is, clean, clean-back, hands}
 
 pub writing-refuses : demands.WritingRefuses
 writing-refuses code low = of-any.writing-refuses (narrow code) low
 
 pub writing-bits : demands.WritingBits
-writing-bits code a = of-any.writing-bits (narrow code) (accepted code a)
+writing-bits code a = of-any.writing-bits (narrowCode code) (accepted code a)
 
 -- ---- a word in its two parts
 
@@ -35,15 +35,15 @@ clean-exactly code a low high l h =
 
 pub verdicts-exactly : demands.VerdictsExactly
 verdicts-exactly code a low high l h =
-    rw (add-zero low) at (of-any.verdicts-exactly (narrow code) (accepted code a) (wordWith low high) (fits code a low high l h))
+    rw (add-zero low) at (of-any.verdicts-exactly (narrowCode code) (accepted code a) (wordWith low high) (fits code a low high l h))
 
 pub syndrome-told : demands.SyndromeTold
 syndrome-told code a low high l h =
-    rw (add-zero low) at (of-any.syndrome-told (narrow code) (accepted code a) (wordWith low high) (fits code a low high l h))
+    rw (add-zero low) at (of-any.syndrome-told (narrowCode code) (accepted code a) (wordWith low high) (fits code a low high l h))
 
 pub place-named : demands.PlaceNamed
 place-named code a low high l h =
-    rw (add-zero low) at (of-any.place-named (narrow code) (accepted code a) (wordWith low high) (fits code a low high l h))
+    rw (add-zero low) at (of-any.place-named (narrowCode code) (accepted code a) (wordWith low high) (fits code a low high l h))
 
 -- ---- a word as one number
 

@@ -11,7 +11,7 @@ use Rattle.word.specs.declared.Word.{Word}
 use Rattle.word.specs.Word.{joined}
 use Rattle.record.specs.Layout.{wideSize, recordSize, entrySize, imageLimit}
 use Rattle.asked.specs.Pass.{Pass, State}
-use Rattle.editions.specs.Given.{Edition, tenBytes, eighteenBytes, Given, MadeCode}
+use Rattle.editions.specs.Given.{Edition, tenBytes, eighteenBytes, Given, HsiaoCode, given, MadeCode}
 use Rattle.editions.specs.Given as of-any
 use Rattle.editions.specs.Promises as promises
 use Rattle.desk.specs.Wide.{wideCheckBitsOf, wideMadeOf, wideJudgementOf, wideRowsOf, wideWrittenOf, wideWord, wideReadOf}
@@ -19,42 +19,34 @@ use Rattle.desk.specs.Wide.{wideExplainedOf, wideCardsOf, widePassedOf, widePut
 
 -- ---- codes as they are handed about
 
+abbrev pub narrowCode : Code → HsiaoCode
+narrowCode code = record { edition = tenBytes; columns = code .columns; k = code .k; r = code .r }
+
+abbrev pub wideCode : WideCode → HsiaoCode
+wideCode code = record { edition = eighteenBytes; columns = code .columns; k = code .k; r = code .r }
+
 abbrev pub narrow : Code → Given
-narrow code = record { edition = tenBytes; columns = code .columns; k = code .k; r = code .r }
+narrow code = given (narrowCode code)
 
 abbrev pub wide : WideCode → Given
-wide code = record { edition = eighteenBytes; columns = code .columns; k = code .k; r = code .r }
+wide code = given (wideCode code)
 
 abbrev pub wideMade : WideMade → MadeCode
-wideMade made = record { number = made .number; code = wide (made .code) }
+wideMade made = record { number = made .number; code = wideCode (made .code) }
 
--- ---- all promises, of an edition whose codes are handed about as C
+-- ---- all promises, of codes that are handed about as C: those of any family
 
-pub record Promised {C : Type 0} (e : Edition) (given : C → Given) : Type 0 where
-  pub records-read : promises.RecordsRead e
-  pub entries-read : promises.EntriesRead e
-  pub accepted-exactly : (code : C) → promises.AcceptedExactly (given code)
-  pub three-ones : (code : C) → promises.ThreeOnes (given code)
-  pub judged-exactly : (code : C) → promises.JudgedExactly (given code)
-  pub check-bits-refused : promises.CheckBitsRefused e
-  pub check-bits-least : promises.CheckBitsLeast e
-  pub check-bits-room : promises.CheckBitsRoom e
+pub record PromisedOfAny {C : Type 0} (given : C → Given) : Type 0 where
   pub balance-refuses : (code : C) → promises.BalanceRefuses (given code)
   pub balance-rows : (code : C) → promises.BalanceRows (given code)
   pub balances-add-up : (code : C) → promises.BalancesAddUp (given code)
-  pub making-exactly : promises.MakingExactly e
-  pub made-accepted : promises.MadeAccepted e
-  pub made-in-order : promises.MadeInOrder e
-  pub made-least : (code : C) → promises.MadeLeast (given code)
-  pub making-wanted : promises.MakingWanted e
   pub writing-refuses : (code : C) → promises.WritingRefuses (given code)
-  pub writing-bits : (code : C) → promises.WritingBits (given code)
+  pub writing-solves : (code : C) → promises.WritingSolves (given code)
   pub reading-refuses : (code : C) → promises.ReadingRefuses (given code)
   pub clean-exactly : (code : C) → promises.CleanExactly (given code)
   pub clean-as-read : (code : C) → promises.CleanAsRead (given code)
-  pub verdicts-exactly : (code : C) → promises.VerdictsExactly (given code)
-  pub place-named : (code : C) → promises.PlaceNamed (given code)
-  pub syndrome-told : (code : C) → promises.SyndromeTold (given code)
+  pub verdicts-by-syndrome : (code : C) → promises.VerdictsBySyndrome (given code)
+  pub syndrome-named : (code : C) → promises.SyndromeNamed (given code)
   pub one-flip : (code : C) → promises.OneFlip (given code)
   pub two-flips : (code : C) → promises.TwoFlips (given code)
   pub mended-clean : (code : C) → promises.MendedClean (given code)
@@ -70,14 +62,12 @@ pub record Promised {C : Type 0} (e : Edition) (given : C → Given) : Type 0 wh
   pub cards-refuse : (code : C) → promises.CardsRefuse (given code)
   pub card-flagged : (code : C) → promises.CardFlagged (given code)
   pub pass-refuses : (code : C) → promises.PassRefuses (given code)
-  pub askable-exactly : promises.AskableExactly e
   pub pass-empty : (code : C) → promises.PassEmpty (given code)
   pub pass-outside : (code : C) → promises.PassOutside (given code)
   pub pass-of-run : (code : C) → promises.PassOfRun (given code)
   pub pass-records : (code : C) → promises.PassRecords (given code)
   pub pass-entries : (code : C) → promises.PassEntries (given code)
   pub pass-applied : (code : C) → promises.PassApplied (given code)
-  pub stamps-rise : promises.StampsRise e
   pub pass-counts : (code : C) → promises.PassCounts (given code)
   pub pass-again : (code : C) → promises.PassAgain (given code)
   pub pass-in-two : (code : C) → promises.PassInTwo (given code)
@@ -86,11 +76,6 @@ pub record Promised {C : Type 0} (e : Edition) (given : C → Given) : Type 0 wh
   pub order-tallies : (code : C) → promises.OrderTallies (given code)
   pub two-clerks : (code : C) → promises.TwoClerks (given code)
   pub shared-record : (code : C) → promises.SharedRecord (given code)
-  pub put-back-refuses : promises.PutBackRefuses e
-  pub put-back-exactly : promises.PutBackExactly e
-  pub put-back-others : promises.PutBackOthers e
-  pub put-back-restores : promises.PutBackRestores e
-  pub passed-again : promises.PassedAgain e
   pub recovering-refuses : (code : C) → promises.RecoveringRefuses (given code)
   pub recovered-exactly : (code : C) → promises.RecoveredExactly (given code)
   pub recovered-only : (code : C) → promises.RecoveredOnly (given code)
@@ -103,15 +88,44 @@ pub record Promised {C : Type 0} (e : Edition) (given : C → Given) : Type 0 wh
   pub stuck-found : (code : C) → promises.StuckFound (given code)
   pub found-recovered : (code : C) → promises.FoundRecovered (given code)
 
+-- those of an edition, whose codes of Hsiao's family are handed about as C
+
+pub record Promised {C : Type 0} (e : Edition) (own : C → HsiaoCode) : Type 0 where
+  pub any : PromisedOfAny (λ code. given (own code))
+  pub records-read : promises.RecordsRead e
+  pub entries-read : promises.EntriesRead e
+  pub accepted-exactly : (code : C) → promises.AcceptedExactly (own code)
+  pub three-ones : (code : C) → promises.ThreeOnes (own code)
+  pub judged-exactly : (code : C) → promises.JudgedExactly (own code)
+  pub check-bits-refused : promises.CheckBitsRefused e
+  pub check-bits-least : promises.CheckBitsLeast e
+  pub check-bits-room : promises.CheckBitsRoom e
+  pub making-exactly : promises.MakingExactly e
+  pub made-accepted : promises.MadeAccepted e
+  pub made-in-order : promises.MadeInOrder e
+  pub made-least : (code : C) → promises.MadeLeast (own code)
+  pub making-wanted : promises.MakingWanted e
+  pub writing-bits : (code : C) → promises.WritingBits (own code)
+  pub verdicts-exactly : (code : C) → promises.VerdictsExactly (own code)
+  pub place-named : (code : C) → promises.PlaceNamed (own code)
+  pub syndrome-told : (code : C) → promises.SyndromeTold (own code)
+  pub askable-exactly : promises.AskableExactly e
+  pub stamps-rise : promises.StampsRise e
+  pub put-back-refuses : promises.PutBackRefuses e
+  pub put-back-exactly : promises.PutBackExactly e
+  pub put-back-others : promises.PutBackOthers e
+  pub put-back-restores : promises.PutBackRestores e
+  pub passed-again : promises.PassedAgain e
+
 -- ---- the demands
 
 -- Every promise holds in the ten-byte edition.
 abbrev pub TenBytesPromised : Type 0
-TenBytesPromised = Promised tenBytes narrow
+TenBytesPromised = Promised tenBytes narrowCode
 
 -- And every one in the wide edition.
 abbrev pub WidePromised : Type 0
-WidePromised = Promised eighteenBytes wide
+WidePromised = Promised eighteenBytes wideCode
 
 -- There records have 18 bytes, entries 46, and an image at most 65,520, which are 3,640 records.
 abbrev pub WideSizes : Type 0

@@ -7,3 +7,4 @@ pub mod PutBack
 pub mod Bad
 pub mod Demands
 pub mod Editions
+pub mod Rows

@@ -1,12 +1,12 @@
 // What a caller outside links: one function for each question, total, each answer a struct by value.
 ghost use mathlib.Core.Path.{_≡_};
 ghost use Rattle.asked.specs.Pass.{passOver, stateOf};
-ghost use Rattle.desk.specs.Answers.{version, checkBitsOf, judgementOf, rowsOf, writtenOf, readOf, explainedOf, cardsOf, passedOf};
+ghost use Rattle.desk.specs.Answers.{version, checkBitsOf, judgementOf, rowsOf, writtenOf, readOf, narrowed, explainedOf, cardsOf, passedOf};
 ghost use Rattle.desk.specs.Answers.{ceilingSheet, bandSheet, openSheet};
 ghost use Rattle.desk.specs.Answers.{madeOf};
 ghost use Rattle.desk.specs.Answers.{byteWritten, byteRead};
 ghost use Rattle.desk.specs.Answers.{putBackOf};
-ghost use Rattle.desk.specs.Answers.{recoveredOf, badPlacesOf};
+ghost use Rattle.desk.specs.Answers.{recoveredBy, recoveredOf, badPlacesBy, badPlacesOf};
 use balance::RowBalance;
 use byte_code::ByteReading;
 use byte_code::ByteWriting;
@@ -14,10 +14,13 @@ use card_check::CardCheck;
 use code::Code;
 use code::Refusal;
 use explain::Listing;
+use finder::Found;
 use make::Made;
 use pass::PassAnswer;
 use put_back::PutBack;
+use reading::Reading;
 use record::DATA;
+use recover::Recovery;
 use sheet::Limit;
 use sheet::SheetAnswer;
 use wanted::CheckBits;
@@ -26,6 +29,10 @@ use writing::CheckWord;
 
 // The wide edition.
 pub mod wide;
+
+// Codes with a chosen set of rows, in both editions.
+pub mod row_sets;
+pub mod wide_row_sets;
 
 // The version of what a caller links: raised by each landing that changes a struct, a size or a meaning.
 const VERSION: usize = 5;
@@ -81,16 +88,10 @@ pub struct ReadWord {
     pub syndrome: u16,
 }
 
-#[no_mangle]
-pub extern "C" fn desk_read(code: Code, data: u64, check: u16) -> ReadWord
-    ensures { λ a. ⌜ a ≡ readOf code «data» check ⌝ }
+// A reading of a word of 64 data bits: its high half is empty, and left out.
+pub fn narrow(reading: Reading) -> ReadWord
+    ensures { λ a. ⌜ a ≡ narrowed reading ⌝ }
 {
-    let word = Word {
-        low: data,
-        high: 0,
-        check,
-    };
-    let reading = reading::read(code::open_code(code), word);
     let handed = reading.word;
     ReadWord {
         number: reading.number,
@@ -101,6 +102,18 @@ pub extern "C" fn desk_read(code: Code, data: u64, check: u16) -> ReadWord
         check: handed.check,
         syndrome: reading.syndrome,
     }
+}
+
+#[no_mangle]
+pub extern "C" fn desk_read(code: Code, data: u64, check: u16) -> ReadWord
+    ensures { λ a. ⌜ a ≡ readOf code «data» check ⌝ }
+{
+    let word = Word {
+        low: data,
+        high: 0,
+        check,
+    };
+    narrow(reading::read(code::open_code(code), word))
 }
 
 // Explanations: the list's length where it is done; the list itself stands in the lent bytes.
@@ -246,16 +259,10 @@ pub struct Recovered {
     pub check: u16,
 }
 
-#[no_mangle]
-pub extern "C" fn desk_recover(code: Code, data: u64, check: u16, bad: &[usize]) -> Recovered
-    ensures { λ a. ⌜ a ≡ recoveredOf code «data» check (now (bad .entry)) ⌝ }
+// A recovery of a word of 64 data bits, without its high half.
+pub fn narrow_recovery(recovery: Recovery) -> Recovered
+    ensures { λ a. ⌜ a ≡ recoveredBy recovery ⌝ }
 {
-    let word = Word {
-        low: data,
-        high: 0,
-        check,
-    };
-    let recovery = recover::recover(code::open_code(code), word, bad);
     let proper = recovery.word;
     Recovered {
         number: recovery.number,
@@ -265,6 +272,18 @@ pub extern "C" fn desk_recover(code: Code, data: u64, check: u16, bad: &[usize])
     }
 }
 
+#[no_mangle]
+pub extern "C" fn desk_recover(code: Code, data: u64, check: u16, bad: &[usize]) -> Recovered
+    ensures { λ a. ⌜ a ≡ recoveredOf code «data» check (now (bad .entry)) ⌝ }
+{
+    let word = Word {
+        low: data,
+        high: 0,
+        check,
+    };
+    narrow_recovery(recover::recover(code::open_code(code), word, bad))
+}
+
 // The finder: the places where two reads agree, as ones in data and check bits.
 #[repr(C)]
 pub struct BadPlaces {
@@ -272,6 +291,19 @@ pub struct BadPlaces {
     pub told: usize,
     pub data: u64,
     pub check: u16,
+}
+
+// Bad places of a word of 64 data bits, without its high half.
+pub fn narrow_places(found: Found) -> BadPlaces
+    ensures { λ a. ⌜ a ≡ badPlacesBy found ⌝ }
+{
+    let places = found.word;
+    BadPlaces {
+        number: found.number,
+        told: found.told,
+        data: places.low,
+        check: places.check,
+    }
 }
 
 #[no_mangle]
@@ -294,12 +326,5 @@ pub extern "C" fn desk_find_bad(
         high: 0,
         check: second_check,
     };
-    let found = finder::find_bad(code::open_code(code), first, second);
-    let places = found.word;
-    BadPlaces {
-        number: found.number,
-        told: found.told,
-        data: places.low,
-        check: places.check,
-    }
+    narrow_places(finder::find_bad(code::open_code(code), first, second))
 }

@@ -1,35 +1,26 @@
--- A code of any edition that is accepted or refused: what its number says of the judge, and what it is opened to. Assumes nothing.
+-- A code of any family and edition that is accepted or refused: what its number says, and what it is opened to. Assumes nothing.
 use mathlib.Core.Path.{_≡_, refl, sym, ap, _∙_}
 use mathlib.Core.Logic.{_≢_, _⊎_, inl, inr, ⊎-elim}
 use mathlib.Core.List.{List}
-use Prim.Native.Nat.{ℕ, _+_, _-_, _≤_}
+use Prim.Native.Nat.{ℕ, _-_, _^_, _≤_, _<_}
 use native.Mathlib.Omega.{arith}
 use lib.ListN.{length, take}
-use lib.Seq.{length-take-le}
-use Rattle.parity.specs.Odd.{oddIn, allRows}
+use Rattle.parity.specs.Odd.{oddIn}
+use Rattle.columns.specs.Mix.{column}
 use Rattle.columns.specs.Sound.{Sound}
-use Rattle.columns.proofs.Singles.{length-joined}
 use Rattle.code.specs.declared.Opened.{Opened}
-use Rattle.code.specs.declared.Refusal.{Refusal}
 use Rattle.code.specs.declared.Standing.{Standing}
 use Rattle.code.specs.declared.Standing.the-variants as standing
-use Rattle.judge.specs.declared.Judged.{Judged}
-use Rattle.judge.specs.declared.Judged.the-variants.{Accepted}
-use Rattle.judge.specs.Judge.{judgeIn}
-use Rattle.judge.specs.Rule.{Limits, Hsiao}
-use Rattle.code.specs.Opened.{standingOf, judgementBy, laidOut, openedBy, columnsOf, Laid, SoundOpened}
-use Rattle.code.proofs.Laid.{laid-in}
+use Rattle.judge.specs.Rule.{Limits}
+use Rattle.code.specs.Opened.{judgementBy, laidOut, openedBy, columnsOf, Laid, SoundOpened}
+use Rattle.code.proofs.Laid.{laid-by}
 use Rattle.code.proofs.Laying.{laid-columns}
-use Rattle.code.proofs.Numbers.{zero-accepts}
-use Rattle.judge.proofs.Table.{judge-rule}
-use Rattle.sound.proofs.Hsiao.{accepted-sound, sound-in}
+use Rattle.sound.proofs.Hsiao as hub
 use Rattle.record.specs.Bytes.{AllBytes}
 use Rattle.at_record.specs.Outcome.{Held}
 use Rattle.editions.specs.Given as words
-use Rattle.editions.specs.Given.{Given, opened, matrixOf, placesOf, judgementOf, Refused}
-
-abbrev pub judgeOf : Given → Judged
-judgeOf code = judgeIn (code .edition .places) (code .columns) (code .k) (code .r)
+use Rattle.editions.specs.Given.{Given, standingFor, opened, setOf, matrixOf, dataColumns, placesOf, judgementOf, Refused, Handed}
+use Rattle.editions.proofs.Families.{zero-stands, limits-by, below-by, sound-by, front-by}
 
 refusal-stands : (s : Standing) → judgementBy s .number ≢ 0 → s ≡ standing.Refused (judgementBy s)
 refusal-stands standing.Accepted n = absurd (n refl)
@@ -41,25 +32,27 @@ module _ (code : Given) where
   opened-standing (standing.Refused f) cs k rows = refl
 
   -- the judge's answer, as the desk gives it
-  pub standing-is : opened code .standing ≡ standingOf (judgeOf code)
-  standing-is = opened-standing (standingOf (judgeOf code)) (matrixOf code) (code .k) (allRows (code .r))
+  pub standing-is : opened code .standing ≡ standingFor code
+  standing-is = opened-standing (standingFor code) (matrixOf code) (code .k) (setOf code)
 
-  pub judgement-is : judgementOf code ≡ judgementBy (standingOf (judgeOf code))
+  pub judgement-is : judgementOf code ≡ judgementBy (standingFor code)
   judgement-is = ap judgementBy standing-is
-
-  pub judged-of : judgementOf code .number ≡ 0 → judgeOf code ≡ Accepted
-  judged-of e = zero-accepts (judgeOf code) (sym (ap (λ (f : Refusal). f .number) judgement-is) ∙ e)
 
   pub standing-refused : Refused code → opened code .standing ≡ standing.Refused (judgementOf code)
   standing-refused n = refusal-stands (opened code .standing) n
 
   -- what an accepted code is opened to
   module _ (e : judgementOf code .number ≡ 0) where
-    pub standing-accepted : opened code .standing ≡ standing.Accepted
-    standing-accepted = standing-is ∙ ap standingOf (judged-of e)
+    pub stands : standingFor code ≡ standing.Accepted
+    stands =
+        zero-stands (code .family) (code .edition .places) (code .columns) (code .k) (code .r)
+        (sym (ap (λ f. f .number) judgement-is) ∙ e)
 
-    pub opened-is : opened code ≡ laidOut (matrixOf code) (code .k) (allRows (code .r))
-    opened-is = ap (λ v. openedBy (standingOf v) (matrixOf code) (code .k) (allRows (code .r))) (judged-of e)
+    pub standing-accepted : opened code .standing ≡ standing.Accepted
+    standing-accepted = standing-is ∙ stands
+
+    pub opened-is : opened code ≡ laidOut (matrixOf code) (code .k) (setOf code)
+    opened-is = ap (λ s. openedBy s (matrixOf code) (code .k) (setOf code)) stands
 
     pub data-is : opened code .k ≡ code .k
     data-is = ap (λ (o : Opened). o .k) opened-is
@@ -67,24 +60,31 @@ module _ (code : Given) where
     pub columns-are : columnsOf (opened code) ≡ matrixOf code
     columns-are = ap columnsOf opened-is ∙ laid-columns (matrixOf code)
 
+    pub limits-kept : Limits (code .edition .places) (code .k) (code .r)
+    limits-kept = limits-by (code .edition .places) (code .columns) (code .k) (code .r) (code .family) stands
+
+    pub columns-below : (p : ℕ) → p < length (matrixOf code) → column (matrixOf code) p < 2 ^ code .r
+    columns-below = below-by (code .edition .places) (code .columns) (code .k) (code .r) (code .family) stands
+
+-- a code with all its places
+module _ (code : Given) (h : Handed code) where
+  sound-accepted : standingFor code ≡ standing.Accepted → Sound (oddIn (setOf code)) (matrixOf code) (code .k) (code .r)
+  sound-accepted = sound-by (code .edition .places) (code .columns) (code .k) (code .r) (code .family) (h .places)
+
 -- an accepted code as it is handed about
 module _ (code : Given) (a : words.Accepted code) where
   pub limits-of : Limits (code .edition .places) (code .k) (code .r)
-  limits-of = judge-rule (code .edition .places) (code .columns) (code .k) (code .r) .0 (judged-of code (a .number)) .limits
+  limits-of = limits-kept code (a .number)
 
-  pub rule-of-code : Hsiao (take (code .k) (code .columns)) (code .r)
-  rule-of-code = judge-rule (code .edition .places) (code .columns) (code .k) (code .r) .0 (judged-of code (a .number)) .rule
-
-  pub data-length : length (take (code .k) (code .columns)) ≡ code .k
-  data-length =
-      let few = limits-of .sized .few in
-      length-take-le (code .k) (code .columns) (omega (arith, a .handed .places))
+  pub sound-of : Sound (oddIn (setOf code)) (matrixOf code) (code .k) (code .r)
+  sound-of = sound-accepted code (a .handed) (stands code (a .number))
 
   pub places-length : length (matrixOf code) ≡ placesOf code
-  places-length = length-joined (take (code .k) (code .columns)) (code .r) ∙ ap (λ (n : ℕ). n + code .r) data-length
+  places-length = sound-of .size
 
-  pub sound-of : Sound (oddIn (allRows (code .r))) (matrixOf code) (code .k) (code .r)
-  sound-of = accepted-sound (code .edition .places) (code .columns) (code .k) (code .r) (a .handed .places) (judged-of code (a .number))
+  pub data-part : take (code .k) (matrixOf code) ≡ dataColumns code
+  data-part =
+      front-by (code .edition .places) (code .columns) (code .k) (code .r) (code .family) (a .handed .places) (stands code (a .number))
 
   -- the opened code has r check columns
   pub checks-are : opened code .n - opened code .k ≡ code .r
@@ -95,7 +95,12 @@ module _ (code : Given) (a : words.Accepted code) where
 -- a code as it is handed about, accepted or refused: its opened code fits its edition's words and records
 module _ (code : Given) (handed : words.Handed code) where
   laid-within : Laid (opened code) × (opened code .k ≤ code .edition .places)
-  laid-within = laid-in (code .edition .places) (code .columns) (code .k) (code .r) (handed .places) (handed .known .most)
+  laid-within =
+      laid-by (code .edition .places) (handed .known .most) (standingFor code) (matrixOf code) (code .k) (setOf code)
+      (λ a.
+      let l = limits-by (code .edition .places) (code .columns) (code .k) (code .r) (code .family) a in
+      let size = sound-accepted code handed a .size in
+      (omega arith, omega (arith, l .top), l .sized .few))
 
   pub laid-of : Laid (opened code)
   laid-of = laid-within .0
@@ -109,7 +114,7 @@ module _ (code : Given) (handed : words.Handed code) where
       record { least = known .halves; most = omega arith; data-held = omega arith }
 
   pub sound-opened : SoundOpened (opened code)
-  sound-opened = sound-in (code .edition .places) (code .columns) (code .k) (code .r) (handed .places)
+  sound-opened = hub.sound-by (standingFor code) (matrixOf code) (code .k) (setOf code) (code .r) (sound-accepted code handed)
 
 -- bytes, or a single half
 pub bytes-of : (code : Given) (image : List ℕ) → judgementOf code .number ≡ 0 → words.InBytes code image

@@ -1,7 +1,10 @@
+pub mod Families
 pub mod Codes
+pub mod Hsiao
 pub mod Words
 pub mod OfRecords
 pub mod OfJudge
+pub mod OfRows
 pub mod OfMaking
 pub mod OfCodes
 pub mod OfWords

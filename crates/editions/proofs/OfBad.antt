@@ -9,7 +9,6 @@ use borrow.Author.Tests.{lt-ltb}
 use lib.Bits.{bitXor}
 use lib.Dec.{ltb}
 use lib.ListN.{length, getD}
-use Rattle.parity.specs.Odd.{allRows}
 use Rattle.parity.proofs.Xor.{eq-of-xor-zero}
 use Rattle.columns.specs.Mix.{column}
 use Rattle.columns.specs.Bits.{bitAt}
@@ -44,7 +43,7 @@ use Rattle.recovered.proofs.Outside.{differs-at, differs-nowhere}
 use Rattle.recovered.proofs.Exactly.{within-once, within-found, found-within, none-found}
 use Rattle.recovered.proofs.AsRead.{readBack, none-bad, any-order}
 use Rattle.recovered.proofs.Finding as finding
-use Rattle.editions.specs.Given.{Given, opened, matrixOf, placesOf, judgementOf, Accepted, Strays, Fits, Unstrayed, read, onlyNumber}
+use Rattle.editions.specs.Given.{Given, opened, setOf, matrixOf, placesOf, judgementOf, Accepted, Strays, Fits, Unstrayed, read, onlyNumber}
 use Rattle.editions.specs.Given.{recoveredOf, badPlacesOf, recover, givenBack, refusedRecovered, Recoverable, findBad, foundIn}
 use Rattle.editions.specs.Promises as promises
 use Rattle.editions.proofs.Codes.{standing-refused, opened-is, places-length, sound-of}
@@ -58,7 +57,7 @@ answerTo x = recovering.recoveredBy x
 
 module _ (code : Given) (a : Accepted code) where
   abbrev rows : ℕ
-  rows = allRows (code .r)
+  rows = setOf code
 
   abbrev cs : List ℕ
   cs = matrixOf code
@@ -185,13 +184,13 @@ recovering-refuses code x bad =
       λ h. answer-refused (opened code) x bad (judgementOf code) (standing-refused code h),
       λ a h.
           recovering-is code a x bad
-          ∙ in-stray (allRows (code .r)) (matrixOf code) (code .k) x bad (stray-is code a x ∙ strayed code a x h),
+          ∙ in-stray (setOf code) (matrixOf code) (code .k) x bad (stray-is code a x ∙ strayed code a x h),
       λ a f wrong.
           let w = asNumber (code .k) x in
           let fits = of-words.fits code a x f in
           parts a f
           ∙ recover-is code a w fits bad
-          ∙ in-wrong (allRows (code .r)) (matrixOf code) (code .k) (inParts (code .k) w) bad (whole code a w fits)
+          ∙ in-wrong (setOf code) (matrixOf code) (code .k) (inParts (code .k) w) bad (whole code a w fits)
           (ap (λ (m : ℕ). wrongPlaces m bad) (n a) ∙ wrong-exactly (placesOf code) bad .1 wrong),
       λ a f right.
           let w = asNumber (code .k) x in
@@ -208,7 +207,7 @@ recovered-exactly code a w fits bad right = (
 
 pub recovered-only : (code : Given) → promises.RecoveredOnly code
 recovered-only code a w fits bad right u v x y =
-    within-once (allRows (code .r)) (sound-of code a) w bad (inside code a w fits) (right-is code a w fits bad right) u v
+    within-once (setOf code) (sound-of code a) w bad (inside code a w fits) (right-is code a w fits bad right) u v
     (within code a w fits bad right u x) (within code a w fits bad right v y)
 
 pub three-columns : (code : Given) → promises.ThreeColumns code
@@ -250,7 +249,7 @@ module _ (code : Given) (a : Accepted code) (w : ℕ) (fits : Unstrayed code w) 
   by-verdict : (v : Verdict) → verdictAt code a w ≡ v → recover code w [] ≡ answerTo (readBack v (code .k) w)
   by-verdict v e =
       recover-reached code a w fits [] (none-right (placesOf code))
-      ∙ ap answerTo (none-bad (allRows (code .r)) (sound-of code a) w (inside code a w fits) ∙ ap (λ (x : Verdict). readBack x (code .k) w) e)
+      ∙ ap answerTo (none-bad (setOf code) (sound-of code a) w (inside code a w fits) ∙ ap (λ (x : Verdict). readBack x (code .k) w) e)
 
   mended-is : (v : Verdict) → verdictAt code a w ≡ v → answerTo (Proper (inParts (code .k) (mendedNumber v w))) ≡ asRead
   mended-is v e =
@@ -292,7 +291,7 @@ same-stands bad other h p = go (stands p bad) (stands p other) refl refl
 pub recovered-any-order : (code : Given) → promises.RecoveredAnyOrder code
 recovered-any-order code a w fits bad other right right′ many same =
     recover-reached code a w fits bad right
-    ∙ ap answerTo (any-order (allRows (code .r)) (sound-of code a) w (inside code a w fits) bad other (right-is code a w fits bad right)
+    ∙ ap answerTo (any-order (setOf code) (sound-of code a) w (inside code a w fits) bad other (right-is code a w fits bad right)
     (right-is code a w fits other right′) (same-stands bad other same) many)
     ∙ sym (recover-reached code a w fits other right′)
 

@@ -5,10 +5,8 @@ use mathlib.Core.List.{List}
 use Prim.Native.Nat.{ℕ, _+_, _-_, _*_, _^_, _≤_, _<_}
 use native.Mathlib.Omega.{arith}
 use lib.ListN.{length, take, drop}
-use lib.Seq.{take-at}
-use Rattle.parity.specs.Odd.{oddIn, allRows}
+use Rattle.parity.specs.Odd.{oddIn}
 use Rattle.parity.proofs.Ones.{below-or-not}
-use Rattle.columns.specs.Mix.{singles}
 use Rattle.verdict.specs.declared.Verdict.the-variants.{Even, Odd}
 use Rattle.card_check.specs.declared.CardCheck.{CardCheck}
 use Rattle.cards.specs.Cards.{cardsIn, cardAt}
@@ -18,9 +16,9 @@ use Rattle.cards.proofs.Parts.{all-counted, data-card, check-card}
 use Rattle.card_check.proofs.Checking.{carded-refused, carded-size, proof-told, weak-told, proof-or-weak}
 use Rattle.shields.proofs.Flagged.{card-stays, card-flagged}
 use Rattle.mending.proofs.Reading.{data-inside}
-use Rattle.editions.specs.Given.{Given, opened, matrixOf, dataColumns, judgementOf, cardsOf, Accepted, Unstrayed, cardsFor}
+use Rattle.editions.specs.Given.{Given, opened, setOf, matrixOf, dataColumns, judgementOf, cardsOf, Accepted, Unstrayed, cardsFor}
 use Rattle.editions.specs.Promises as promises
-use Rattle.editions.proofs.Codes.{standing-accepted, standing-refused, data-is, columns-are, data-length, places-length, sound-of}
+use Rattle.editions.proofs.Codes.{standing-accepted, standing-refused, data-is, columns-are, data-part, places-length, sound-of}
 use Rattle.editions.proofs.Words.{answered-as, clean-zero}
 
 sized : {b : ℕ} → 2 ≤ b → b ≤ 8 → CardSize b
@@ -29,7 +27,7 @@ sized h l = record { least = h; top = l }
 -- ---- which cards a code has
 
 data-within : (code : Given) → Accepted code → code .k ≤ length (matrixOf code)
-data-within code a = data-inside (allRows (code .r)) (sound-of code a)
+data-within code a = data-inside (setOf code) (sound-of code a)
 
 pub cards-begin-again : (code : Given) → promises.CardsBeginAgain code
 cards-begin-again code b a =
@@ -37,7 +35,7 @@ cards-begin-again code b a =
     let cs = matrixOf code in
     let inside = data-within code a in
     let checks : length cs - k ≡ code .r = omega (arith, places-length code a) in
-    let front : take k cs ≡ dataColumns code = take-at (dataColumns code) (singles (code .r)) k (data-length code a) in (
+    let front : take k cs ≡ dataColumns code = data-part code a in (
       all-counted b k cs inside ∙ ap (λ (n : ℕ). cardsIn b k + cardsIn b n) checks,
       λ t l. data-card b k cs inside t l ∙ ap (λ (d : List ℕ). record { place = t * b; columns = take b (drop (t * b) d) }) front,
       λ t l. check-card b k cs inside t (rw checks l),
@@ -105,7 +103,7 @@ flagged code b handed e w fits clean t mask inside several =
     let low : w < 2 ^ length cs = rw (places-length code a) fits in
     let stays : u < 2 ^ length cs = card-stays cs k b within (proof .0) t mask inside several w low in
     let z = clean-zero code a w fits .0 clean in
-    let v = card-flagged cs k b within (proof .0) t mask inside several w (oddIn (allRows (code .r))) (proof .1) z in
+    let v = card-flagged cs k b within (proof .0) t mask inside several w (oddIn (setOf code)) (proof .1) z in
     let unstrayed : Unstrayed code u = rw (places-length code a) at stays in
     ⊎-elim
     (λ f. let x = answered-as code a u unstrayed Even f in (inl (x .verdict), x .place, x .hands))

@@ -17,9 +17,10 @@ use Rattle.least.proofs.Wanted.{no-room-below}
 use Rattle.balance.specs.Balance.{rowOnes, allOnes}
 use Rattle.balance.proofs.Answer.{refused-balances, accepted-number, length-balances, balance-row, balance-past}
 use Rattle.balance.proofs.Sum.{accepted-balances-zero, refused-balances-zero}
-use Rattle.editions.specs.Given.{Edition, Known, Given, opened, judgementOf, rowsOf, Accepted, CodeOf}
+use Rattle.editions.specs.Given.{Edition, Known, Given, HsiaoCode, given, opened, judgementOf, rowsOf, Accepted, CodeOf}
 use Rattle.editions.specs.Promises as promises
-use Rattle.editions.proofs.Codes.{judged-of, standing-accepted, standing-refused, columns-are, checks-are, limits-of, sound-of}
+use Rattle.editions.proofs.Codes.{standing-accepted, standing-refused, columns-are, checks-are, limits-of, sound-of}
+use Rattle.editions.proofs.Hsiao.{judged-of}
 use Rattle.editions.proofs.OfMaking.{made-exists}
 
 -- ---- check bits wanted
@@ -28,13 +29,13 @@ pub check-bits-refused : (e : Edition) → promises.CheckBitsRefused e
 check-bits-refused e k = (refused-exactly (e .places) k, wanted-refused (e .places) k)
 
 -- an accepted code leaves room for itself
-room-of-code : (code : Given) → Accepted code → code .k ≤ 2 ^ (code .r - 1) - code .r
+room-of-code : (code : HsiaoCode) → Accepted (given code) → code .k ≤ 2 ^ (code .r - 1) - code .r
 room-of-code code a =
     accepted-room (code .edition .places) (code .columns) (code .k) (code .r) (a .handed .places) (judged-of code (a .number))
 
 -- said of the k and r that it has
-pub room-of : (code : Given) → Accepted code → (k r : ℕ) → code .k ≡ k → code .r ≡ r → k + r ≤ 2 ^ (r - 1)
-room-of code a k r e f = omega (arith, limits-of code a .sized .some, rw (e, f) at (room-of-code code a))
+pub room-of : (code : HsiaoCode) → Accepted (given code) → (k r : ℕ) → code .k ≡ k → code .r ≡ r → k + r ≤ 2 ^ (r - 1)
+room-of code a k r e f = omega (arith, limits-of (given code) a .sized .some, rw (e, f) at (room-of-code code a))
 
 pub check-bits-least : (e : Edition) → Known e → promises.CheckBitsLeast e
 check-bits-least e known k some few =
@@ -48,7 +49,7 @@ check-bits-least e known k some few =
       subst (λ (r : ℕ). CodeOf e k r) (sym bits)
           (made-exists e known k (bandOf k) limits (omega (arith, b .2))),
       λ code a g.
-          let own = limits-of code a in
+          let own = limits-of (given code) a in
           rw bits
           (⊎-elim
           (λ (l : code .r < bandOf k). absurd (omega (arith, room-of-code code a, g, no-room-below k (code .r) some all (own .least) .1 l)))
@@ -59,7 +60,7 @@ check-bits-least e known k some few =
 pub check-bits-room : (e : Edition) → Known e → promises.CheckBitsRoom e
 check-bits-room e known k r some few least top =
     let limits : Limits (e .places) k r = record { sized = record { some = some; few = few }; least = least; top = top } in (
-      λ c. room-of _ (c .accepted) k r refl refl,
+      λ c. room-of (record { edition = e; columns = c .columns; k = k; r = r }) (c .accepted) k r refl refl,
       λ h. made-exists e known k r limits (omega arith),
     )
 

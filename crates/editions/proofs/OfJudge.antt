@@ -14,15 +14,16 @@ use Rattle.code.proofs.Numbers.{judgedBy, known-by}
 use Rattle.judge.proofs.Rule.{fine-of}
 use Rattle.judge.proofs.Table.{judge-exactly, judge-rule}
 use Rattle.columns.proofs.Singles.{length-joined}
-use Rattle.editions.specs.Given.{Given, matrixOf, judgementOf}
+use Rattle.editions.specs.Given.{HsiaoCode, given, matrixOf, judgementOf}
 use Rattle.editions.specs.Promises as promises
-use Rattle.editions.proofs.Codes.{judgeOf, judgement-is, judged-of, rule-of-code, data-length}
+use Rattle.editions.proofs.Codes.{judgement-is}
+use Rattle.editions.proofs.Hsiao.{judgeOf, judged-of, rule-of-code, data-length}
 
-pub accepted-exactly : (code : Given) → promises.AcceptedExactly code
+pub accepted-exactly : (code : HsiaoCode) → promises.AcceptedExactly code
 accepted-exactly code handed =
     let long = handed .places in
     let columns = take (code .k) (code .columns) in
-    let n : length (matrixOf code) ≡ length columns + code .r = length-joined columns (code .r) in (
+    let n : length (matrixOf (given code)) ≡ length columns + code .r = length-joined columns (code .r) in (
       λ e.
           let s = judge-rule (code .edition .places) (code .columns) (code .k) (code .r) .0 (judged-of code e) in
           let few = s .limits .sized .few in
@@ -36,7 +37,7 @@ accepted-exactly code handed =
       λ s.
           let few = s .0 .sized .few in
           let l = length-take-le (code .k) (code .columns) (omega arith) in
-          ap (λ (f : Refusal). f .number) (judgement-is code
+          ap (λ (f : Refusal). f .number) (judgement-is (given code)
           ∙ ap (λ v. judgementBy (standingOf v)) (judge-rule (code .edition .places) (code .columns) (code .k) (code .r) .1 (record {
             limits = s .0;
             rule = record {
@@ -48,7 +49,7 @@ accepted-exactly code handed =
     )
 
 -- an odd number of ones that is not one
-pub three-ones : (code : Given) → promises.ThreeOnes code
+pub three-ones : (code : HsiaoCode) → promises.ThreeOnes code
 three-ones code a i h =
     let columns = take (code .k) (code .columns) in
     let fine = fine-of columns (code .r) (rule-of-code code a) i (omega (arith, data-length code a)) in
@@ -57,16 +58,16 @@ three-ones code a i h =
     omega arith
 
 -- each answer is known by its number and what it tells
-answer-exactly : (code : Given) (v : Judged)
-    → (judgementOf code ≡ judgementBy (standingOf v)) ↔ SaysOfCode (code .edition .places) (code .columns) (code .k) (code .r) v
+answer-exactly : (code : HsiaoCode) (v : Judged)
+    → (judgementOf (given code) ≡ judgementBy (standingOf v)) ↔ SaysOfCode (code .edition .places) (code .columns) (code .k) (code .r) v
 answer-exactly code v =
     let x = judge-exactly (code .edition .places) (code .columns) (code .k) (code .r) v in (
       λ e. x .0 (sym (known-by (judgeOf code))
-          ∙ ap (λ (f : Refusal). judgedBy (f .number) (f .told)) (sym (judgement-is code) ∙ e) ∙ known-by v),
-      λ s. judgement-is code ∙ ap (λ u. judgementBy (standingOf u)) (x .1 s),
+          ∙ ap (λ (f : Refusal). judgedBy (f .number) (f .told)) (sym (judgement-is (given code)) ∙ e) ∙ known-by v),
+      λ s. judgement-is (given code) ∙ ap (λ u. judgementBy (standingOf u)) (x .1 s),
     )
 
-pub judged-exactly : (code : Given) → promises.JudgedExactly code
+pub judged-exactly : (code : HsiaoCode) → promises.JudgedExactly code
 judged-exactly code = (
   answer-exactly code Accepted,
   answer-exactly code NoData,

@@ -6,7 +6,6 @@ use mathlib.Core.List.{List}
 use Prim.Native.Nat.{ℕ, _*_, _-_, _^_, _≤_, _<_}
 use native.Mathlib.Omega.{arith}
 use lib.ListN.{length, take, drop}
-use Rattle.parity.specs.Odd.{allRows}
 use Rattle.columns.specs.Mix.{mix, flipped}
 use Rattle.code.specs.declared.Opened.{Opened}
 use Rattle.code.specs.declared.Standing.the-variants as standing
@@ -25,7 +24,7 @@ use Rattle.explain.proofs.Answers.{said, setsOf, answer-refused, answer-stray, 
 use Rattle.explain.proofs.Flips.{flip-all-lt}
 use Rattle.explained.proofs.Explanations as explained
 use Rattle.explained.proofs.Lists.{listed-entry, listed-rest, done-of-zero, entry-apart}
-use Rattle.editions.specs.Given.{Given, opened, matrixOf, placesOf, judgementOf, explainedOf, Accepted}
+use Rattle.editions.specs.Given.{Given, opened, setOf, matrixOf, placesOf, judgementOf, explainedOf, Accepted}
 use Rattle.editions.specs.Given.{bitsOf, Strays, Unstrayed, explanations, explanationsOf}
 use Rattle.editions.specs.Promises as promises
 use Rattle.editions.proofs.Codes.{standing-refused, standing-accepted, opened-is, data-is, columns-are, checks-are, limits-of, places-length, sound-of}
@@ -108,10 +107,10 @@ entry-tells code a ps qs s t =
 
 module _ (code : Given) (a : Accepted code) where
   -- under the code's own columns, with all rows in the set
-  pub list-is : (w limit : ℕ) → explanations code w limit ≡ explaining.explanations (allRows (code .r)) (matrixOf code) (code .k) w limit
+  pub list-is : (w limit : ℕ) → explanations code w limit ≡ explaining.explanations (setOf code) (matrixOf code) (code .k) w limit
   list-is w limit =
       ap (λ (o : Opened). explaining.explanations (o .rows) (columnsOf o) (o .k) w limit) (opened-is code (a .number))
-      ∙ ap (λ (cs : List ℕ). explaining.explanations (allRows (code .r)) cs (code .k) w limit) (laid-columns (matrixOf code))
+      ∙ ap (λ (cs : List ℕ). explaining.explanations (setOf code) cs (code .k) w limit) (laid-columns (matrixOf code))
 
   module _ (w : ℕ) (fits : Unstrayed code w) where
     below : w < 2 ^ length (matrixOf code)
@@ -119,7 +118,7 @@ module _ (code : Given) (a : Accepted code) where
 
 pub explained-exactly : (code : Given) → promises.ExplainedExactly code
 explained-exactly code a w fits limit ps =
-    let rows = allRows (code .r) in
+    let rows = setOf code in
     let n = places-length code a in
     let x = explained.explained-exactly rows (matrixOf code) (code .k) w limit ps in
     let k = data-inside rows (sound-of code a) in
@@ -140,11 +139,11 @@ explained-exactly code a w fits limit ps =
 
 pub explained-once : (code : Given) → promises.ExplainedOnce code
 explained-once code a w fits limit h =
-    rw (list-is code a w limit) (explained.explained-once (allRows (code .r)) (sound-of code a) w (below code a w fits) limit h)
+    rw (list-is code a w limit) (explained.explained-once (setOf code) (sound-of code a) w (below code a w fits) limit h)
 
 pub explained-in-order : (code : Given) → promises.ExplainedInOrder code
 explained-in-order code a w fits limit h =
-    let rows = allRows (code .r) in
+    let rows = setOf code in
     let s = sound-of code a in
     let l = limits-of code a in
     let few = explained.explained-few rows s w (below code a w fits) limit h in
@@ -154,7 +153,7 @@ explained-in-order code a w fits limit h =
 
 pub explained-flips : (code : Given) → promises.ExplainedFlips code
 explained-flips code a w fits c =
-    let rows = allRows (code .r) in
+    let rows = setOf code in
     let s = sound-of code a in
     let u = below code a w fits in
     let z = clean-zero code a w fits .0 c in

@@ -13,9 +13,10 @@ use Rattle.make.specs.Made.{paddedTo, makeNumber, makingIn}
 use Rattle.make.proofs.Exactly.{one-exactly, two-exactly, fifteen-exactly, done-exactly}
 use Rattle.least.proofs.Codes.{made-places, made-front, made-past, made-accepted, made-stored, made-before, none-left-out, accepted-room, made-least}
 use Rattle.least.proofs.Wanted.{no-room-below}
-use Rattle.editions.specs.Given.{Edition, Known, Given, matrixOf, MadeCode, madeWith, madeOf, CodeOf, IsMade, noCode}
+use Rattle.editions.specs.Given.{Edition, Known, HsiaoCode, given, matrixOf, MadeCode, madeWith, madeOf, CodeOf, IsMade, noCode}
 use Rattle.editions.specs.Promises as promises
-use Rattle.editions.proofs.Codes.{judgement-is, judged-of, limits-of}
+use Rattle.editions.proofs.Codes.{judgement-is, limits-of}
+use Rattle.editions.proofs.Hsiao.{judged-of}
 
 module _ (e : Edition) where
   -- the answer's number is the one of the table
@@ -24,7 +25,7 @@ module _ (e : Edition) where
   number-by (suc n) k r = refl
 
   -- the code that is made
-  abbrev made-code : ℕ → ℕ → Given
+  abbrev made-code : ℕ → ℕ → HsiaoCode
   made-code k r = record { edition = e; columns = paddedTo (e .places) (madeColumns k r); k = k; r = r }
 
   module _ (k r : ℕ) where
@@ -47,7 +48,7 @@ module _ (e : Edition) where
       made-is = ap (λ (n : ℕ). makingIn (madeWith e) (e .places) n k r) (sym number-is ∙ f)
 
       -- a fact of the code that is made, of the answer
-      of-made : (P : Given → Type 0) → P (made-code k r) → P (madeOf e k r .code)
+      of-made : (P : HsiaoCode → Type 0) → P (made-code k r) → P (madeOf e k r .code)
       of-made P p = subst (λ (m : MadeCode). P (m .code)) (sym made-is) p
 
 chained : {A B C : Type 0} → A ↔ B → B ↔ C → A ↔ C
@@ -69,7 +70,7 @@ made-exists e known k r limits room = record {
   accepted = record {
     handed = record { places = made-places (e .places) k r limits room; known = known };
     number =
-        ap (λ f. f .number) (judgement-is (made-code e k r))
+        ap (λ f. f .number) (judgement-is (given (made-code e k r)))
         ∙ ap (λ v. judgementBy (standingOf v) .number) (made-accepted (e .places) k r limits room);
   };
 }
@@ -79,28 +80,28 @@ unfolding made-exists
 made-accepted-code e known k r f =
     let t = room-of e k r f in
     let c = made-exists e known k r (t .0) (t .1) in
-    of-made e k r f (λ (code : Given). promises.MadeFor code k r)
+    of-made e k r f (λ (code : HsiaoCode). promises.MadeFor code k r)
     (c .accepted, c .stored, refl, refl, made-past (e .places) k r (t .0) (t .1))
 
 pub made-in-order : (e : Edition) → promises.MadeInOrder e
 made-in-order e k r f =
     let t = room-of e k r f in
-    of-made e k r f (λ (code : Given). promises.Ordered (code .columns) k r) (
+    of-made e k r f (λ (code : HsiaoCode). promises.Ordered (code .columns) k r) (
       made-before (e .places) k r (t .0) (t .1),
       λ x h o m. none-left-out (e .places) k r (t .0) (t .1) x (record { below = h; odd = o; many = m }),
     )
 
-pub made-least-code : (code : Given) → promises.MadeLeast code
+pub made-least-code : (code : HsiaoCode) → promises.MadeLeast code
 made-least-code code a =
     let e = code .edition in
     let k = code .k in
     let r = code .r in
     let judged = judged-of code (a .number) in
-    let limits = limits-of code a in
+    let limits = limits-of (given code) a in
     let room = accepted-room (e .places) (code .columns) k r (a .handed .places) judged in
     let f = making-exactly e k r .3 .1 (limits, room) in (
       f,
-      of-made e k r f (λ (made : Given). allOnes (matrixOf made) ≤ allOnes (matrixOf code))
+      of-made e k r f (λ (made : HsiaoCode). allOnes (matrixOf (given made)) ≤ allOnes (matrixOf (given code)))
           (rw (made-front (e .places) k r limits room) (made-least (e .places) (code .columns) k r (a .handed .places) judged)),
     )
 

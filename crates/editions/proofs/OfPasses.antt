@@ -15,8 +15,6 @@ use Rattle.code.specs.declared.Standing.{Standing}
 use Rattle.code.specs.declared.Standing.the-variants as standing
 use Rattle.code.specs.Opened.{judgementBy, columnsOf}
 use Rattle.code.proofs.Laid.{refused-no-acceptance}
-use Rattle.judge.proofs.Rule.{matrix-below}
-use Rattle.judge.proofs.Table.{judge-rule}
 use Rattle.word.specs.declared.Word.{Word}
 use Rattle.verdict.specs.declared.Verdict.{Verdict}
 use Rattle.verdict.specs.declared.Verdict.the-variants.{Clean, Data, Check, Even, Odd, Stray}
@@ -48,7 +46,7 @@ use Rattle.editions.specs.Given as words
 use Rattle.editions.specs.Given.{Edition, Given, opened, judgementOf, passedOf, Accepted, recordOf, readAt, verdictOf, placeFor}
 use Rattle.editions.specs.Given.{imageAfter, journalAfter, answerOf, Done, PassRefused, needed, countFrom, codeIn, Turn, turnsAfter, AllStamped}
 use Rattle.editions.specs.Promises as promises
-use Rattle.editions.proofs.Codes.{judged-of, standing-accepted, standing-refused, columns-are, laid-of, held-of, sound-opened, bytes-of}
+use Rattle.editions.proofs.Codes.{standing-accepted, standing-refused, columns-are, limits-kept, columns-below, laid-of, held-of, sound-opened, bytes-of}
 
 -- ---- refusals, in their order
 
@@ -248,13 +246,13 @@ pub narrow : (code : Given) → judgementOf code .number ≡ 0 → (rec : List �
 unfolding outcome.syndromeOf byteSpan
 narrow code e rec =
     let o = opened code in
-    let rule = judge-rule (code .edition .places) (code .columns) (code .k) (code .r) .0 (judged-of code e) in
+    let limits = limits-kept code e in
     let below : (p : ℕ) → p < length (columnsOf o) → column (columnsOf o) p < 2 ^ code .r =
-    rw (columns-are code e) (matrix-below (take (code .k) (code .columns)) (code .r) (rule .rule)) in
+    rw (columns-are code e) (columns-below code e) in
     omega (
       arith,
       syndrome-lt (columnsOf o) (o .k) (wordIn (code .edition .bytes) rec) (code .r) below,
-      pow-mono {i = code .r} {j = 16} (rule .limits .top),
+      pow-mono {i = code .r} {j = 16} (limits .top),
     )
 
 pub pass-applied : (code : Given) → promises.PassApplied code

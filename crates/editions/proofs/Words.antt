@@ -4,7 +4,7 @@ use mathlib.Core.Logic.{_↔_}
 use mathlib.Core.List.{List}
 use Prim.Native.Nat.{ℕ, _^_, _<_}
 use lib.ListN.{length}
-use Rattle.parity.specs.Odd.{oddIn, allRows}
+use Rattle.parity.specs.Odd.{oddIn}
 use Rattle.columns.specs.Mix.{mix}
 use Rattle.code.specs.declared.Opened.{Opened}
 use Rattle.code.proofs.Laying.{laid-columns}
@@ -20,7 +20,7 @@ use Rattle.verdict.proofs.Exactly.{RowOf, verdict-row, verdict-table}
 use Rattle.mending.proofs.Reading.{mendedNumber, mended-parts, read-number, data-inside}
 use Rattle.mending.proofs.Syndromes.{syndrome-number}
 use Rattle.reading.specs.declared.Reading.{Reading}
-use Rattle.editions.specs.Given.{Given, opened, matrixOf, Unstrayed, read, HandsBack}
+use Rattle.editions.specs.Given.{Given, opened, setOf, matrixOf, Unstrayed, read, HandsBack}
 use Rattle.editions.specs.Given as words
 use Rattle.editions.proofs.Codes.{opened-is, places-length, sound-of}
 
@@ -35,20 +35,20 @@ pub record Answered (code : Given) (w : ℕ) (a : Reading) (x : Verdict) : Type 
 module _ (code : Given) (a : words.Accepted code) where
   -- the verdict on a word's syndrome
   abbrev pub verdictAt : ℕ → Verdict
-  verdictAt w = verdictOn (oddIn (allRows (code .r))) (matrixOf code) (code .k) (mix (matrixOf code) w)
+  verdictAt w = verdictOn (oddIn (setOf code)) (matrixOf code) (code .k) (mix (matrixOf code) w)
 
   pub reading-is : (x : Word)
       → readingOf (opened code) x
-      ≡ readingBy (readIn (allRows (code .r)) (matrixOf code) (code .k) x) (syndromeIn (matrixOf code) (code .k) x) (code .k) x
+      ≡ readingBy (readIn (setOf code) (matrixOf code) (code .k) x) (syndromeIn (matrixOf code) (code .k) x) (code .k) x
   reading-is x =
       ap (λ (o : Opened). readingOf o x) (opened-is code (a .number))
-      ∙ ap (λ (cs : List ℕ). readingBy (readIn (allRows (code .r)) cs (code .k) x) (syndromeIn cs (code .k) x) (code .k) x)
+      ∙ ap (λ (cs : List ℕ). readingBy (readIn (setOf code) cs (code .k) x) (syndromeIn cs (code .k) x) (code .k) x)
       (laid-columns (matrixOf code))
 
   -- the row that holds of a word's syndrome
   abbrev RowAt : ℕ → Verdict → Type 0
   RowAt w x =
-      RowOf (allRows (code .r)) (matrixOf code) (code .k) (data-inside (allRows (code .r)) (sound-of code a)) (sound-of code a .good)
+      RowOf (setOf code) (matrixOf code) (code .k) (data-inside (setOf code) (sound-of code a)) (sound-of code a .good)
       (mix (matrixOf code) w) x
 
   -- every verdict but stray is an answer, and stray none of them is
@@ -67,8 +67,8 @@ module _ (code : Given) (a : words.Accepted code) where
 
     row : RowAt w (verdictAt w)
     row =
-        verdict-row (allRows (code .r)) (matrixOf code) (code .k)
-        (data-inside (allRows (code .r)) (sound-of code a)) (sound-of code a .good)
+        verdict-row (setOf code) (matrixOf code) (code .k)
+        (data-inside (setOf code) (sound-of code a)) (sound-of code a .good)
         (mix (matrixOf code) w)
 
     abbrev syndrome : ℕ
@@ -78,8 +78,8 @@ module _ (code : Given) (a : words.Accepted code) where
     read-is =
         reading-is (inParts (code .k) w)
         ∙ ap₂ (λ (x : Verdict) (s : ℕ). readingBy x s (code .k) (inParts (code .k) w))
-        (read-number (allRows (code .r)) (matrixOf code) (code .k) w (data-inside (allRows (code .r)) (sound-of code a)) inside)
-        (syndrome-number (allRows (code .r)) (matrixOf code) (code .k) w (data-inside (allRows (code .r)) (sound-of code a)) inside)
+        (read-number (setOf code) (matrixOf code) (code .k) w (data-inside (setOf code) (sound-of code a)) inside)
+        (syndrome-number (setOf code) (matrixOf code) (code .k) w (data-inside (setOf code) (sound-of code a)) inside)
         ∙ given w syndrome (verdictAt w) row
 
     -- WHAT A READING ANSWERS: the number of the verdict on the syndrome, its place, and the word with that place flipped
@@ -96,16 +96,16 @@ module _ (code : Given) (a : words.Accepted code) where
     pub answered-as : (x : Verdict) → verdictAt w ≡ x → Answered code w (read code w) x
     answered-as x e = subst (Answered code w (read code w)) e answered
 
-    pub table : VerdictTable (allRows (code .r)) (matrixOf code) (code .k)
+    pub table : VerdictTable (setOf code) (matrixOf code) (code .k)
         (mix (matrixOf code) w) (read code w .verdict) (read code w .place)
     table =
-        subst (λ (n : ℕ). VerdictTable (allRows (code .r)) (matrixOf code) (code .k) (mix (matrixOf code) w) n (read code w .place))
+        subst (λ (n : ℕ). VerdictTable (setOf code) (matrixOf code) (code .k) (mix (matrixOf code) w) n (read code w .place))
         (sym (answered .verdict))
         (subst
-        (λ (n : ℕ). VerdictTable (allRows (code .r)) (matrixOf code) (code .k) (mix (matrixOf code) w) (findingOf (verdictAt w) .verdict) n)
+        (λ (n : ℕ). VerdictTable (setOf code) (matrixOf code) (code .k) (mix (matrixOf code) w) (findingOf (verdictAt w) .verdict) n)
         (sym (answered .place))
-        (verdict-table (allRows (code .r)) (matrixOf code) (code .k)
-        (data-inside (allRows (code .r)) (sound-of code a)) (sound-of code a .good)
+        (verdict-table (setOf code) (matrixOf code) (code .k)
+        (data-inside (setOf code) (sound-of code a)) (sound-of code a .good)
         (mix (matrixOf code) w)))
 
     -- CLEAN exactly when the syndrome is 0

@@ -8,11 +8,16 @@ use Prim.Native.Nat.{ℕ, zero, suc, _+_, _-_, _*_, _/_, _%_, _^_, _≤_, _<_}
 use lib.Dec.{eqb, ltb}
 use lib.IntN.{pos}
 use lib.ListN.{length, take, replicate}
+use Rattle.parity.specs.Odd.{allRows}
 use Rattle.columns.specs.Mix.{column}
 use Rattle.code.specs.declared.Opened.{Opened}
 use Rattle.code.specs.declared.Refusal.{Refusal}
+use Rattle.code.specs.declared.Standing.{Standing}
+use Rattle.judge.specs.Judge.{judgeIn}
 use Rattle.judge.specs.Rule.{matrix}
-use Rattle.code.specs.Opened.{judgementIn, openedIn, columnsOf}
+use Rattle.code.specs.Opened.{standingOf, judgementIn, openedBy, columnsOf}
+use Rattle.row_judge.specs.Judge.{judgeRowsIn}
+use Rattle.rows.specs.Opened.{standingOfRows}
 use Rattle.wanted.specs.declared.CheckBits.{CheckBits}
 use Rattle.wanted.specs.Wanted.{wantedIn}
 use Rattle.balance.specs.declared.RowBalance.{RowBalance}
@@ -70,25 +75,81 @@ pub record Known (e : Edition) : Type 0 where
   pub halves : 8 ≤ e .bytes
   pub held : e .places ≡ 8 * e .bytes
 
--- a code as it is handed about in an edition
+-- Hsiao's family, and codes that bring all n columns and a chosen set of rows
+pub data Family : Type 0 where
+  hsiao : Family
+  chosen : ℕ → Family
+
+-- a code of a family as it is handed about in an edition: its places, k data bits and r check bits
 pub record Given : Type 0 where
+  pub edition : Edition
+  pub family : Family
+  pub columns : List ℕ
+  pub k : ℕ
+  pub r : ℕ
+
+-- how many places it keeps: those with check columns of their own keep 16 more
+abbrev pub placesFor : Family → ℕ → ℕ
+placesFor hsiao most = most
+placesFor (chosen rows) most = most + 16
+
+-- what its judge says
+abbrev pub standingBy : Family → ℕ → List ℕ → ℕ → ℕ → Standing
+standingBy hsiao most columns k r = standingOf (judgeIn most columns k r)
+standingBy (chosen rows) most columns k r = standingOfRows (judgeRowsIn most columns (k + r) r rows)
+
+-- its n columns, and its set of rows
+abbrev pub matrixBy : Family → List ℕ → ℕ → ℕ → List ℕ
+matrixBy hsiao columns k r = matrix (take k columns) r
+matrixBy (chosen rows) columns k r = take (k + r) columns
+
+abbrev pub rowsBy : Family → ℕ → ℕ
+rowsBy hsiao r = allRows r
+rowsBy (chosen rows) r = rows
+
+abbrev pub keptPlaces : Given → ℕ
+keptPlaces code = placesFor (code .family) (code .edition .places)
+
+abbrev pub standingFor : Given → Standing
+standingFor code = standingBy (code .family) (code .edition .places) (code .columns) (code .k) (code .r)
+
+abbrev pub matrixOf : Given → List ℕ
+matrixOf code = matrixBy (code .family) (code .columns) (code .k) (code .r)
+
+abbrev pub setOf : Given → ℕ
+setOf code = rowsBy (code .family) (code .r)
+
+abbrev pub opened : Given → Opened
+opened code = openedBy (standingFor code) (matrixOf code) (code .k) (setOf code)
+
+-- its k data columns
+abbrev pub dataColumns : Given → List ℕ
+dataColumns code = take (code .k) (code .columns)
+
+-- a code of Hsiao's family
+pub record HsiaoCode : Type 0 where
   pub edition : Edition
   pub columns : List ℕ
   pub k : ℕ
   pub r : ℕ
 
-abbrev pub opened : Given → Opened
-opened code = openedIn (code .edition .places) (code .columns) (code .k) (code .r)
-
--- its k data columns, its n columns, and their number
-abbrev pub dataColumns : Given → List ℕ
-dataColumns code = take (code .k) (code .columns)
-
-abbrev pub matrixOf : Given → List ℕ
-matrixOf code = matrix (dataColumns code) (code .r)
+abbrev pub given : HsiaoCode → Given
+given code = record { edition = code .edition; family = hsiao; columns = code .columns; k = code .k; r = code .r }
 
 abbrev pub placesOf : Given → ℕ
 placesOf code = code .k + code .r
+
+-- a code with a chosen set of rows: n columns, the last r of them check columns
+pub record ChosenCode : Type 0 where
+  pub edition : Edition
+  pub columns : List ℕ
+  pub n : ℕ
+  pub r : ℕ
+  pub rows : ℕ
+
+abbrev pub chosenOf : ChosenCode → Given
+chosenOf code =
+    record { edition = code .edition; family = chosen (code .rows); columns = code .columns; k = code .n - code .r; r = code .r }
 
 -- ---- what is answered
 
@@ -97,7 +158,7 @@ checkBitsOf e k = wantedIn (e .places) k
 
 pub record MadeCode : Type 0 where
   pub number : ℕ
-  pub code : Given
+  pub code : HsiaoCode
 
 abbrev pub madeWith : Edition → ℕ → List ℕ → ℕ → ℕ → MadeCode
 madeWith e number columns k r = record { number = number; code = record { edition = e; columns = columns; k = k; r = r } }
@@ -128,9 +189,9 @@ passedOf code p s = afterPass (opened code) (code .edition .bytes) p s
 
 -- ---- accepted and refused
 
--- a code has all the places of its edition
+-- a code has all the places that its family keeps
 pub record Handed (code : Given) : Type 0 where
-  pub places : length (code .columns) ≡ code .edition .places
+  pub places : length (code .columns) ≡ keptPlaces code
   pub known : Known (code .edition)
 
 pub record Accepted (code : Given) : Type 0 where
@@ -144,7 +205,7 @@ Refused code = ¬ (judgementOf code .number ≡ 0)
 pub record CodeOf (e : Edition) (k r : ℕ) : Type 0 where
   pub columns : List ℕ
   pub stored : (p : ℕ) → p < e .places → column columns p < 2 ^ 16
-  pub accepted : Accepted (record { edition = e; columns = columns; k = k; r = r })
+  pub accepted : Accepted (record { edition = e; family = hsiao; columns = columns; k = k; r = r })
 
 -- it is made; and a refusal: this number, and a code of k 0 and r 0 with zeros alone
 abbrev pub IsMade : Edition → ℕ → ℕ → Type 0
@@ -296,15 +357,16 @@ stateAfter code p s = stateIn s (passedOf code p s)
 abbrev pub Stamped : Pass → Type 0
 Stamped p = p .stamp < 2 ^ 32
 
--- passes in their order, each under a code of its own and told the true count in use
+-- passes in their order, each under a code of its own, of either family, and told the true count in use
 pub record Turn : Type 0 where
+  pub family : Family
   pub columns : List ℕ
   pub k : ℕ
   pub r : ℕ
   pub pass : Pass
 
 abbrev pub codeIn : Edition → Turn → Given
-codeIn e x = record { edition = e; columns = x .columns; k = x .k; r = x .r }
+codeIn e x = record { edition = e; family = x .family; columns = x .columns; k = x .k; r = x .r }
 
 unfoldable pub turnsAfter : Edition → List Turn → State → State
 turnsAfter e [] s = s

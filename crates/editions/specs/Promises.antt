@@ -11,13 +11,17 @@ use lib.Count.{ones}
 use lib.Dec.{ltb}
 use lib.IntN.{pos, _+ℤ_}
 use lib.ListN.{length, getD, take, drop}
-use Rattle.parity.specs.Odd.{oddOnes}
-use Rattle.columns.specs.Mix.{column, flipped}
+use Rattle.parity.specs.Odd.{oddOnes, oddIn}
+use Rattle.columns.specs.Mix.{column, mix, flipped}
 use Rattle.columns.specs.Bits.{bitAt, rowBit}
 use Rattle.judge.specs.declared.Judged.the-variants as judged
 use Rattle.judge.specs.Rule.{Sized, Limits, SaysOfCode}
+use Rattle.row_judge.specs.declared.JudgedRows.the-variants as rows
+use Rattle.row_judge.specs.Rule.{SaysOfRows}
+use Rattle.families.specs.ByRows.{ByRows}
 use Rattle.balance.specs.Balance.{rowOnes, allOnes, sumℤ}
 use Rattle.word.specs.declared.Word.{Word}
+use Rattle.word.specs.Word.{wordOf, asNumber}
 use Rattle.record.specs.Bytes.{AllBytes}
 use Rattle.record.specs.Layout.{recordSize, entrySize, recordBytes, dataIn, checkIn, Entry, entryBytes, entryIn}
 use Rattle.record.specs.Run.{over}
@@ -38,7 +42,7 @@ use Rattle.orders.specs.Orders.{Ends, endsOf, InRun, AllDone, talliesGiven, ent
 use Rattle.recovered.specs.Named.{Repeated, WrongPlaces}
 use Rattle.recovered.specs.Stuck.{ReadBack, complement}
 use Rattle.least.specs.Order.{Before}
-use Rattle.editions.specs.Given.{Edition, Given, matrixOf, dataColumns, placesOf, Handed, Accepted, Refused, CodeOf}
+use Rattle.editions.specs.Given.{Edition, Given, HsiaoCode, given, ChosenCode, chosenOf, setOf, matrixOf, dataColumns, placesOf, Handed, Accepted, Refused, CodeOf}
 use Rattle.editions.specs.Given.{checkBitsOf, madeOf, judgementOf, rowsOf, writtenOf, readOf, explainedOf, cardsOf, IsMade, noCode}
 use Rattle.editions.specs.Given.{cardsFor, bitsOf, Strays, Fits, Unstrayed, read, HandsBack, Clean, explanations, explanationsOf}
 use Rattle.editions.specs.Given.{told, onlyNumber, refusedRows, refusedWriting, refusedReading, refusedListing, refusedCards, allZero}
@@ -73,31 +77,65 @@ EntriesRead e =
 
 -- Accepted exactly: k is 1 to the edition's places, r is 3 to 16, each data column is below 2 ^ r, of all n columns no two are equal and
 -- each has an odd number of ones, and every place past k is 0.
-abbrev pub AcceptedExactly : Given → Type 0
+abbrev pub AcceptedExactly : HsiaoCode → Type 0
 AcceptedExactly code =
-    Handed code
-    → (judgementOf code .number ≡ 0)
+    Handed (given code)
+    → (judgementOf (given code) .number ≡ 0)
     ↔ (Limits (code .edition .places) (code .k) (code .r)
-    × ((i : ℕ) → i < code .k → column (dataColumns code) i < 2 ^ code .r)
-    × ((p q : ℕ) → p < placesOf code → q < placesOf code → column (matrixOf code) p ≡ column (matrixOf code) q → p ≡ q)
-    × ((p : ℕ) → p < placesOf code → oddOnes (column (matrixOf code) p) ≡ 1)
+    × ((i : ℕ) → i < code .k → column (dataColumns (given code)) i < 2 ^ code .r)
+    × ((p q : ℕ) → p < placesOf (given code) → q < placesOf (given code)
+    → column (matrixOf (given code)) p ≡ column (matrixOf (given code)) q → p ≡ q)
+    × ((p : ℕ) → p < placesOf (given code) → oddOnes (column (matrixOf (given code)) p) ≡ 1)
     × ((i : ℕ) → code .k ≤ i → i < code .edition .places → column (code .columns) i ≡ 0))
 
-abbrev pub ThreeOnes : Given → Type 0
-ThreeOnes code = Accepted code → (i : ℕ) → i < code .k → 3 ≤ ones (column (dataColumns code) i)
+abbrev pub ThreeOnes : HsiaoCode → Type 0
+ThreeOnes code = Accepted (given code) → (i : ℕ) → i < code .k → 3 ≤ ones (column (dataColumns (given code)) i)
 
 -- Refusals 1 to 6 and 21 exactly.
-abbrev pub JudgedExactly : Given → Type 0
+abbrev pub JudgedExactly : HsiaoCode → Type 0
 JudgedExactly code =
     let says = SaysOfCode (code .edition .places) (code .columns) (code .k) (code .r) in
-    ((judgementOf code ≡ onlyNumber 0) ↔ says judged.Accepted)
-    × ((judgementOf code ≡ onlyNumber 1) ↔ says judged.NoData)
-    × ((judgementOf code ≡ onlyNumber 2) ↔ says judged.NoChecks)
-    × ((i : ℕ) → (judgementOf code ≡ told 3 i) ↔ says (judged.TooWide i))
-    × ((i : ℕ) → (judgementOf code ≡ told 4 i) ↔ says (judged.EvenColumn i))
-    × ((i : ℕ) → (judgementOf code ≡ told 5 i) ↔ says (judged.SingleOne i))
-    × ((i : ℕ) → (judgementOf code ≡ told 6 i) ↔ says (judged.Repeated i))
-    × ((i : ℕ) → (judgementOf code ≡ told 21 i) ↔ says (judged.Leftover i))
+    ((judgementOf (given code) ≡ onlyNumber 0) ↔ says judged.Accepted)
+    × ((judgementOf (given code) ≡ onlyNumber 1) ↔ says judged.NoData)
+    × ((judgementOf (given code) ≡ onlyNumber 2) ↔ says judged.NoChecks)
+    × ((i : ℕ) → (judgementOf (given code) ≡ told 3 i) ↔ says (judged.TooWide i))
+    × ((i : ℕ) → (judgementOf (given code) ≡ told 4 i) ↔ says (judged.EvenColumn i))
+    × ((i : ℕ) → (judgementOf (given code) ≡ told 5 i) ↔ says (judged.SingleOne i))
+    × ((i : ℕ) → (judgementOf (given code) ≡ told 6 i) ↔ says (judged.Repeated i))
+    × ((i : ℕ) → (judgementOf (given code) ≡ told 21 i) ↔ says (judged.Leftover i))
+
+-- Of codes with a chosen set of rows. Accepted exactly: k = n - r is 1 to the edition's places, r is 3 to 16, each of the n columns is
+-- below 2 ^ r, the set is not empty and names no row at r or above, no column is zero and no two are equal, the last r are triangular with ones
+-- on their diagonal, each column has an odd number of ones within the set, and every place past n is 0.
+abbrev pub RowsKept : ChosenCode → Type 0
+RowsKept code =
+    let cs = code .columns in
+    Limits (code .edition .places) (code .n - code .r) (code .r)
+    × ((i : ℕ) → i < code .n → column cs i < 2 ^ code .r)
+    × (code .rows ≢ 0) × (code .rows < 2 ^ code .r)
+    × ((i : ℕ) → i < code .n → column cs i ≢ 0)
+    × ((p q : ℕ) → p < code .n → q < code .n → column cs p ≡ column cs q → p ≡ q)
+    × ByRows (take (code .r) (drop (code .n - code .r) cs))
+    × ((i : ℕ) → i < code .n → oddIn (code .rows) (column cs i) ≡ 1)
+    × ((i : ℕ) → code .n ≤ i → i < code .edition .places + 16 → column cs i ≡ 0)
+
+abbrev pub AcceptedRowsExactly : ChosenCode → Type 0
+AcceptedRowsExactly code = Handed (chosenOf code) → (judgementOf (chosenOf code) .number ≡ 0) ↔ RowsKept code
+
+-- Refusals 1, 2, 3, 20 with its four reasons, and 21 exactly.
+abbrev pub JudgedRowsExactly : ChosenCode → Type 0
+JudgedRowsExactly code =
+    let says = SaysOfRows (code .edition .places) (code .columns) (code .n) (code .r) (code .rows) in
+    let judgement = judgementOf (chosenOf code) in
+    ((judgement ≡ onlyNumber 0) ↔ says rows.Accepted)
+    × ((judgement ≡ onlyNumber 1) ↔ says rows.NoData)
+    × ((judgement ≡ onlyNumber 2) ↔ says rows.NoChecks)
+    × ((i : ℕ) → (judgement ≡ told 3 i) ↔ says (rows.TooWide i))
+    × ((judgement ≡ told 20 1) ↔ says rows.NoRows)
+    × ((judgement ≡ told 20 2) ↔ says rows.Repeated)
+    × ((judgement ≡ told 20 3) ↔ says rows.NotTriangular)
+    × ((judgement ≡ told 20 4) ↔ says rows.EvenColumn)
+    × ((i : ℕ) → (judgement ≡ told 21 i) ↔ says (rows.Leftover i))
 
 -- Check bits wanted is refused by 1 exactly for k 0 and k over the places, and hands back no bits then.
 abbrev pub CheckBitsRefused : Edition → Type 0
@@ -112,7 +150,7 @@ CheckBitsLeast e =
     (k : ℕ) → 1 ≤ k → k ≤ e .places
     → (checkBitsOf e k .number ≡ 0)
     × CodeOf e k (checkBitsOf e k .bits)
-    × ((code : Given) → Accepted code → code .k ≡ k → checkBitsOf e k .bits ≤ code .r)
+    × ((code : HsiaoCode) → Accepted (given code) → code .k ≡ k → checkBitsOf e k .bits ≤ code .r)
 
 -- An accepted code of k data bits and r check bits exists just where k ≤ 2 ^ (r - 1) - r.
 abbrev pub CheckBitsRoom : Edition → Type 0
@@ -150,9 +188,9 @@ MakingExactly e =
     × (IsMade e k r ↔ (Limits (e .places) k r × (k ≤ 2 ^ (r - 1) - r)))
 
 -- What is made is an accepted code of k data bits and r check bits, of numbers of 16 bits; its places past k are 0.
-abbrev pub MadeFor : Given → ℕ → ℕ → Type 0
+abbrev pub MadeFor : HsiaoCode → ℕ → ℕ → Type 0
 MadeFor code k r =
-    Accepted code × ((p : ℕ) → p < code .edition .places → column (code .columns) p < 2 ^ 16) × (code .k ≡ k) × (code .r ≡ r)
+    Accepted (given code) × ((p : ℕ) → p < code .edition .places → column (code .columns) p < 2 ^ 16) × (code .k ≡ k) × (code .r ≡ r)
     × ((p : ℕ) → k ≤ p → p < code .edition .places → column (code .columns) p ≡ 0)
 
 abbrev pub MadeAccepted : Edition → Type 0
@@ -169,11 +207,11 @@ abbrev pub MadeInOrder : Edition → Type 0
 MadeInOrder e = (k r : ℕ) → IsMade e k r → Ordered (madeOf e k r .code .columns) k r
 
 -- No accepted code of the same k and r has fewer ones in all its n columns; and for every accepted code one is made.
-abbrev pub MadeLeast : Given → Type 0
+abbrev pub MadeLeast : HsiaoCode → Type 0
 MadeLeast code =
-    Accepted code
+    Accepted (given code)
     → let e = code .edition in
-    IsMade e (code .k) (code .r) × (allOnes (matrixOf (madeOf e (code .k) (code .r) .code)) ≤ allOnes (matrixOf code))
+    IsMade e (code .k) (code .r) × (allOnes (matrixOf (given (madeOf e (code .k) (code .r) .code))) ≤ allOnes (matrixOf (given code)))
 
 -- Within the limits, 15 exactly when r is below the check bits wanted for k.
 abbrev pub MakingWanted : Edition → Type 0
@@ -190,10 +228,11 @@ WritingRefuses code =
     × (judgementOf code .number ≡ 0 → bits < 2 ^ code .k → (writtenOf code bits .number ≡ 0) × (writtenOf code bits .told ≡ 0))
 
 -- Check bit j of writing is the exclusive or of those data bits whose column has bit j; there are r of them.
-abbrev pub WritingBits : Given → Type 0
+abbrev pub WritingBits : HsiaoCode → Type 0
 WritingBits code =
-    Accepted code → (bits : ℕ) → bits < 2 ^ code .k
-    → ((j : ℕ) → bitAt (writtenOf code bits .check) j ≡ rowBit (dataColumns code) bits j) × (writtenOf code bits .check < 2 ^ code .r)
+    Accepted (given code) → (bits : ℕ) → bits < 2 ^ code .k
+    → let check = writtenOf (given code) bits .check in
+    ((j : ℕ) → bitAt check j ≡ rowBit (dataColumns (given code)) bits j) × (check < 2 ^ code .r)
 
 -- Reading refuses in this order: the code's number and place; 7 exactly for a data bit at k or above or a check bit at r or above.
 abbrev pub ReadingRefuses : Given → Type 0
@@ -213,34 +252,64 @@ CleanAsRead code =
     Accepted code → (w : ℕ) → Unstrayed code w → Clean code w → (read code w .place ≡ 255) × HandsBack code (read code w) w
 
 -- The table of verdicts, with the syndrome as document 01 has it.
-abbrev pub VerdictsExactly : Given → Type 0
+abbrev pub VerdictsExactly : HsiaoCode → Type 0
 VerdictsExactly code =
+    Accepted (given code) → (x : Word) → Fits (given code) x
+    → let s = bitXor (writtenOf (given code) (bitsOf x) .check) (x .check) in
+    let v = readOf (given code) x .verdict in
+    ((v ≡ 0) ↔ (s ≡ 0))
+    × ((v ≡ 1) ↔ ((p : ℕ) × (p < code .k) × (column (matrixOf (given code)) p ≡ s)))
+    × ((v ≡ 2) ↔ ((p : ℕ) × (code .k ≤ p) × (p < placesOf (given code)) × (column (matrixOf (given code)) p ≡ s)))
+    × ((v ≡ 3) ↔ ((s ≢ 0) × (oddOnes s ≡ 0)))
+    × ((v ≡ 4) ↔ ((oddOnes s ≡ 1) × ((p : ℕ) → p < placesOf (given code) → column (matrixOf (given code)) p ≢ s)))
+
+-- Verdicts 1 and 2 name the place whose column is the syndrome; the others name none, 255.
+abbrev pub PlaceNamed : HsiaoCode → Type 0
+PlaceNamed code =
+    Accepted (given code) → (x : Word) → Fits (given code) x
+    → let s = bitXor (writtenOf (given code) (bitsOf x) .check) (x .check) in
+    let a = readOf (given code) x in
+    ((a .verdict ≡ 1) ⊎ (a .verdict ≡ 2) → (a .place < placesOf (given code)) × (column (matrixOf (given code)) (a .place) ≡ s))
+    × (a .verdict ≢ 1 → a .verdict ≢ 2 → a .place ≡ 255)
+
+-- The syndrome handed back is document 01's; it is 0 exactly for clean, and for verdicts 1 and 2 the column of the place.
+abbrev pub SyndromeTold : HsiaoCode → Type 0
+SyndromeTold code =
+    Accepted (given code) → (x : Word) → Fits (given code) x
+    → let a = readOf (given code) x in
+    (a .syndrome ≡ bitXor (writtenOf (given code) (bitsOf x) .check) (x .check))
+    × ((a .syndrome ≡ 0) ↔ (a .verdict ≡ 0))
+    × ((a .verdict ≡ 1) ⊎ (a .verdict ≡ 2) → column (matrixOf (given code)) (a .place) ≡ a .syndrome)
+
+-- The table of verdicts by the syndrome, the exclusive or of the columns of all set bits, and by its ones within the set of rows.
+abbrev pub VerdictsBySyndrome : Given → Type 0
+VerdictsBySyndrome code =
     Accepted code → (x : Word) → Fits code x
-    → let s = bitXor (writtenOf code (bitsOf x) .check) (x .check) in
+    → let s = mix (matrixOf code) (asNumber (code .k) x) in
     let v = readOf code x .verdict in
     ((v ≡ 0) ↔ (s ≡ 0))
     × ((v ≡ 1) ↔ ((p : ℕ) × (p < code .k) × (column (matrixOf code) p ≡ s)))
     × ((v ≡ 2) ↔ ((p : ℕ) × (code .k ≤ p) × (p < placesOf code) × (column (matrixOf code) p ≡ s)))
-    × ((v ≡ 3) ↔ ((s ≢ 0) × (oddOnes s ≡ 0)))
-    × ((v ≡ 4) ↔ ((oddOnes s ≡ 1) × ((p : ℕ) → p < placesOf code → column (matrixOf code) p ≢ s)))
+    × ((v ≡ 3) ↔ ((s ≢ 0) × (oddIn (setOf code) s ≡ 0)))
+    × ((v ≡ 4) ↔ ((oddIn (setOf code) s ≡ 1) × ((p : ℕ) → p < placesOf code → column (matrixOf code) p ≢ s)))
 
--- Verdicts 1 and 2 name the place whose column is the syndrome; the others name none, 255.
-abbrev pub PlaceNamed : Given → Type 0
-PlaceNamed code =
-    Accepted code → (x : Word) → Fits code x
-    → let s = bitXor (writtenOf code (bitsOf x) .check) (x .check) in
-    let a = readOf code x in
-    ((a .verdict ≡ 1) ⊎ (a .verdict ≡ 2) → (a .place < placesOf code) × (column (matrixOf code) (a .place) ≡ s))
-    × (a .verdict ≢ 1 → a .verdict ≢ 2 → a .place ≡ 255)
-
--- The syndrome handed back is document 01's; it is 0 exactly for clean, and for verdicts 1 and 2 the column of the place.
-abbrev pub SyndromeTold : Given → Type 0
-SyndromeTold code =
+-- It is handed back; verdicts 1 and 2 name the place whose column it is, the others name none, 255.
+abbrev pub SyndromeNamed : Given → Type 0
+SyndromeNamed code =
     Accepted code → (x : Word) → Fits code x
     → let a = readOf code x in
-    (a .syndrome ≡ bitXor (writtenOf code (bitsOf x) .check) (x .check))
-    × ((a .syndrome ≡ 0) ↔ (a .verdict ≡ 0))
-    × ((a .verdict ≡ 1) ⊎ (a .verdict ≡ 2) → column (matrixOf code) (a .place) ≡ a .syndrome)
+    (a .syndrome ≡ mix (matrixOf code) (asNumber (code .k) x))
+    × ((a .verdict ≡ 1) ⊎ (a .verdict ≡ 2) → (a .place < placesOf code) × (column (matrixOf code) (a .place) ≡ a .syndrome))
+    × (a .verdict ≢ 1 → a .verdict ≢ 2 → a .place ≡ 255)
+
+-- Writing solves for the check bits: there are r of them, the word with them has syndrome 0, and no other r check bits give that.
+abbrev pub WritingSolves : Given → Type 0
+WritingSolves code =
+    Accepted code → (bits : ℕ) → bits < 2 ^ code .k
+    → let c = writtenOf code bits .check in
+    (c < 2 ^ code .r)
+    × (mix (matrixOf code) (wordOf (code .k) bits c) ≡ 0)
+    × ((d : ℕ) → d < 2 ^ code .r → mix (matrixOf code) (wordOf (code .k) bits d) ≡ 0 → d ≡ c)
 
 -- One flipped place of a clean word is found, 1 for a data bit and 2 for a check bit, named, and put right.
 abbrev pub OneFlip : Given → Type 0

@@ -25,13 +25,13 @@ use Rattle.least.proofs.Room.{room, order-count, length-made, made-at, 
 -- ---- places with zeros behind a list
 
 module _ (most : ℕ) (cs : List ℕ) (h : length cs ≤ most) where
-  length-padded : length (paddedTo most cs) ≡ most
+  pub length-padded : length (paddedTo most cs) ≡ most
   length-padded = omega (arith, length-append cs (replicate (most - length cs) 0), length-replicate {A = ℕ} (most - length cs) 0)
 
   padded-at : (p : ℕ) → p < length cs → column (paddedTo most cs) p ≡ column cs p
   padded-at p u = List·getD-append cs (replicate (most - length cs) 0) 0 p u
 
-  padded-past : (p : ℕ) → length cs ≤ p → p < most → column (paddedTo most cs) p ≡ 0
+  pub padded-past : (p : ℕ) → length cs ≤ p → p < most → column (paddedTo most cs) p ≡ 0
   padded-past p u l =
       let e : p ≡ length cs + (p - length cs) = omega arith in
       ap (column (paddedTo most cs)) e ∙ getD-append-add cs (replicate (most - length cs) 0) (p - length cs) 0

@@ -17,10 +17,27 @@ use Rattle.columns.proofs.Linear.{mix-xor, mix-zero}
 use Rattle.columns.proofs.Singles.{length-singles, single-at}
 use Rattle.columns.proofs.Words.{mix-lt}
 use Rattle.columns.specs.Solving.{missing, solveFrom, solve}
-use Rattle.sound.specs.Triangular.{beside, Lower, Upper, Triangular}
+use Rattle.faults.specs.Faults.{offDiagonal}
+use Rattle.row_judge.specs.Rule.{Lower, Upper, Triangular}
 use Rattle.columns.specs.Sound.{Reaches}
 
 -- ---- one turn: the columns without their diagonals
+
+-- triangular from row j on: a one on each diagonal, and nothing in a row before it; or nothing in a row after it
+abbrev besideFrom : List ℕ → ℕ → ℕ → ℕ
+besideFrom cs j p = bitXor (column cs p) (2 ^ (j + p))
+
+abbrev LowerFrom : List ℕ → ℕ → Type 0
+LowerFrom cs j = (p : ℕ) → p < length cs → besideFrom cs j p % 2 ^ suc (j + p) ≡ 0
+
+abbrev UpperFrom : List ℕ → ℕ → Type 0
+UpperFrom cs j = (p : ℕ) → p < length cs → besideFrom cs j p < 2 ^ (j + p)
+
+lower-from : (cs : List ℕ) → Lower cs → LowerFrom cs 0
+lower-from cs l p h = rw (zero-add p) (l p h)
+
+upper-from : (cs : List ℕ) → Upper cs → UpperFrom cs 0
+upper-from cs l p h = rw (zero-add p) (l p h)
 
 -- a word's part on the diagonals, digit by digit
 diagonal : (d w j : ℕ) → d < 2 → (d + 2 * w) * 2 ^ j ≡ bitXor (taken d (2 ^ j)) (w * 2 ^ suc j)
@@ -72,17 +89,17 @@ halves w i h =
     let z : w % 2 ^ (i + 1) ≡ 0 = ap (λ (k : ℕ). w % 2 ^ k) (sym e) ∙ h in
     (omega arith, omega arith)
 
-lower-tail : (c : ℕ) (cs : List ℕ) (j : ℕ) → Lower (c ∷ cs) j → Lower cs (suc j)
+lower-tail : (c : ℕ) (cs : List ℕ) (j : ℕ) → LowerFrom (c ∷ cs) j → LowerFrom cs (suc j)
 lower-tail c cs j l p h = rw (shift j p) at (l (suc p) (suc-le-suc h))
 
-upper-tail : (c : ℕ) (cs : List ℕ) (j : ℕ) → Upper (c ∷ cs) j → Upper cs (suc j)
+upper-tail : (c : ℕ) (cs : List ℕ) (j : ℕ) → UpperFrom (c ∷ cs) j → UpperFrom cs (suc j)
 upper-tail c cs j l p h = rw (shift j p) at (l (suc p) (suc-le-suc h))
 
 half-lt : (w : ℕ) (cs : List ℕ) → w < 2 ^ suc (length cs) → w / 2 < 2 ^ length cs
 half-lt w cs h = omega (arith, pow-suc 2 (length cs))
 
 -- rows before the diagonal are empty: a multiple of 2 ^ i becomes one of 2 ^ (i + 1)
-turn-lower : (cs : List ℕ) (j w i : ℕ) → Lower cs j → w < 2 ^ length cs → w % 2 ^ i ≡ 0
+turn-lower : (cs : List ℕ) (j w i : ℕ) → LowerFrom cs j → w < 2 ^ length cs → w % 2 ^ i ≡ 0
     → bitXor (mix cs w) (w * 2 ^ j) % 2 ^ suc (j + i) ≡ 0
 unfolding mix
 turn-lower [] j w i l h d =
@@ -106,7 +123,7 @@ taken-lt zero x m h = omega arith
 taken-lt (suc d) x m h = h
 
 -- rows after the diagonal are empty: a number of i + 1 digits becomes one of i
-turn-upper : (cs : List ℕ) (j w i : ℕ) → Upper cs j → w < 2 ^ length cs → w < 2 ^ suc i → bitXor (mix cs w) (w * 2 ^ j) < 2 ^ (j + i)
+turn-upper : (cs : List ℕ) (j w i : ℕ) → UpperFrom cs j → w < 2 ^ length cs → w < 2 ^ suc i → bitXor (mix cs w) (w * 2 ^ j) < 2 ^ (j + i)
 unfolding mix
 turn-upper [] j w i l h d =
     let z : w * 2 ^ j ≡ 0 = omega (arith, ap (λ (x : ℕ). x * 2 ^ j) (lt-one h)) in
@@ -177,19 +194,19 @@ module _ (checks : List ℕ) (below : (p : ℕ) → p < length checks → column
   abbrev Narrow : ℕ → ℕ → Type 0
   Narrow i e = e < 2 ^ (length checks - i)
 
-  reaches-lower : Lower checks 0 → Reaches checks (length checks)
+  reaches-lower : Lower checks → Reaches checks (length checks)
   reaches-lower l = record {
     solved = solves-each checks below Multiple (λ e h. mod-one e) turn end;
     once = solves-once checks below Multiple (λ e h. mod-one e) turn end;
   }
     where
       turn : (i e : ℕ) → i < length checks → e < 2 ^ length checks → Multiple i e → Multiple (suc i) (bitXor (mix checks e) e)
-      turn i e h u d = rw (mul-one e, zero-add i) at (turn-lower checks 0 e i l u d)
+      turn i e h u d = rw (mul-one e, zero-add i) at (turn-lower checks 0 e i (lower-from checks l) u d)
 
       end : (e : ℕ) → e < 2 ^ length checks → Multiple (length checks) e → e ≡ 0
       end e h d = sym (mod-eq-of-lt h) ∙ d
 
-  reaches-upper : Upper checks 0 → Reaches checks (length checks)
+  reaches-upper : Upper checks → Reaches checks (length checks)
   reaches-upper l = record {
     solved = solves-each checks below Narrow start turn end;
     once = solves-once checks below Narrow start turn end;
@@ -201,7 +218,8 @@ module _ (checks : List ℕ) (below : (p : ℕ) → p < length checks → column
       turn : (i e : ℕ) → i < length checks → e < 2 ^ length checks → Narrow i e → Narrow (suc i) (bitXor (mix checks e) e)
       turn i e h u d =
           let s : length checks - i ≡ suc (length checks - suc i) = omega arith in
-          rw (mul-one e, zero-add (length checks - suc i)) at (turn-upper checks 0 e (length checks - suc i) l u (rw s at d))
+          rw (mul-one e, zero-add (length checks - suc i))
+          at (turn-upper checks 0 e (length checks - suc i) (upper-from checks l) u (rw s at d))
 
       end : (e : ℕ) → e < 2 ^ length checks → Narrow (length checks) e → e ≡ 0
       end e h d = let z : length checks - length checks ≡ 0 = omega arith in lt-one (rw z at d)
@@ -216,5 +234,5 @@ singles-triangular r =
     inl (λ p h.
     let n = length-singles r in
     let e : column (singles r) p ≡ 2 ^ p = single-at r p (omega arith) in
-    let z : beside (singles r) 0 p ≡ 0 = ap₂ bitXor e (ap (λ (x : ℕ). 2 ^ x) (zero-add p)) ∙ xor-self (2 ^ p) in
-    ap (λ (x : ℕ). x % 2 ^ suc (0 + p)) z ∙ none-mod (suc (0 + p)))
+    let z : offDiagonal (singles r) p ≡ 0 = ap (λ (x : ℕ). bitXor x (2 ^ p)) e ∙ xor-self (2 ^ p) in
+    ap (λ (x : ℕ). x % 2 ^ suc p) z ∙ none-mod (suc p))

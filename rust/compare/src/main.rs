@@ -9,7 +9,10 @@ mod desks;
 mod program;
 
 use desks::{Archive, Wrapper};
-use second::{compare, compare_narrow, compare_wide, Amounts, Desk, Difference, Line, Questions, Second, WideCode};
+use second::{
+    compare, compare_narrow, compare_rows, compare_wide, Amounts, Desk, Difference, Line, Questions, Second, WideCode,
+};
+use second::{reason_number, Code, OfCodes, RowCode, WideRowCode};
 use std::collections::BTreeMap;
 use std::process;
 use std::time::Instant;
@@ -99,6 +102,10 @@ impl Counts {
 fn gate(asked: &Asked, counts: &mut Counts) {
     let desks: [&dyn Desk; 3] = [&Second, &Archive, &Wrapper];
     let wide: [&dyn Questions<WideCode>; 3] = [&Second, &Archive, &Wrapper];
+    let of_codes: [&dyn OfCodes<Code>; 3] = [&Second, &desks[1], &desks[2]];
+    let of_wide: [&dyn OfCodes<WideCode>; 3] = [&Second, &Archive, &Wrapper];
+    let rows: [&dyn OfCodes<RowCode>; 3] = [&Second, &Archive, &Wrapper];
+    let wide_rows: [&dyn OfCodes<WideRowCode>; 3] = [&Second, &Archive, &Wrapper];
     for seed in asked.seed..asked.seed + asked.times {
         println!("seed {}: second, archive, wrapper", seed);
         let amounts = Amounts { seed, inputs: 0, ..Amounts::GATE };
@@ -106,17 +113,25 @@ fn gate(asked: &Asked, counts: &mut Counts) {
         counts.compared(Edition::TenBytes, compare_narrow(&desks, &amounts), |_| true);
         println!("seed {}, the wide edition: second, archive, wrapper", seed);
         counts.compared(Edition::Wide, compare_wide(&wide, &amounts), |_| true);
+        println!("seed {}, codes with a set of rows: second, archive, wrapper", seed);
+        counts.compared(Edition::TenBytes, compare_rows(&rows, &of_codes, &amounts), |_| true);
+        println!("seed {}, codes with a set of rows in the wide edition: second, archive, wrapper", seed);
+        counts.compared(Edition::Wide, compare_rows(&wide_rows, &of_wide, &amounts), |_| true);
     }
+    let mut met_in = |number: usize, edition: Edition, name: &str| {
+        let met = counts.met.get(&(edition, number)).copied().unwrap_or(0);
+        let often = if met < OFTEN { "seldom" } else { "often" };
+        counts.expect(&format!("{} is met {} times", name, met), often, "often");
+    };
     for number in refusals() {
-        let mut met_in = |edition: Edition, name: &str| {
-            let met = counts.met.get(&(edition, number)).copied().unwrap_or(0);
-            let often = if met < OFTEN { "seldom" } else { "often" };
-            counts.expect(&format!("refusal {} is met {} times{}", number, met, name), often, "often");
-        };
-        met_in(Edition::TenBytes, "");
+        met_in(number, Edition::TenBytes, &format!("refusal {}", number));
         if number != SHEET {
-            met_in(Edition::Wide, " in the wide edition");
+            met_in(number, Edition::Wide, &format!("refusal {} in the wide edition", number));
         }
+    }
+    for reason in 1..=4 {
+        met_in(reason_number(reason), Edition::TenBytes, &format!("refusal 20 by reason {}", reason));
+        met_in(reason_number(reason), Edition::Wide, &format!("refusal 20 by reason {} in the wide edition", reason));
     }
 }
 

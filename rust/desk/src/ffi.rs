@@ -36,6 +36,36 @@ pub struct WideCode {
     pub r: usize,
 }
 
+/// A code with a set of rows: `n` columns, the last `r` of them check columns, which need not be single ones.
+///
+/// Nothing about it is trusted. Its k is n - r. Column places past `n` hold 0.
+#[repr(C)]
+#[derive(Clone, Copy, PartialEq, Eq, Hash, Debug)]
+pub struct RowCode {
+    /// The n columns, then 0.
+    pub columns: [u16; 80],
+    /// How many columns, more than r.
+    pub n: usize,
+    /// How many check bits, 3 to 16.
+    pub r: usize,
+    /// The set of rows, bit j for row j.
+    pub rows: u16,
+}
+
+/// A code with a set of rows of the wide edition, of 144 column places; else as [`RowCode`].
+#[repr(C)]
+#[derive(Clone, Copy, PartialEq, Eq, Hash, Debug)]
+pub struct WideRowCode {
+    /// The n columns, then 0.
+    pub columns: [u16; 144],
+    /// How many columns, more than r.
+    pub n: usize,
+    /// How many check bits, 3 to 16.
+    pub r: usize,
+    /// The set of rows, bit j for row j.
+    pub rows: u16,
+}
+
 /// A word of the wide edition: its data in two halves.
 ///
 /// ```
@@ -431,6 +461,72 @@ extern "C" {
         count: usize,
     ) -> WideRecovered;
     fn desk_wide_find_bad(code: WideCode, first: WideWord, second: WideWord) -> WideBadPlaces;
+    fn desk_rows_judge(code: RowCode) -> Judgement;
+    fn desk_rows_row_balance(code: RowCode) -> RowBalance;
+    fn desk_rows_write(code: RowCode, data: u64) -> CheckWord;
+    fn desk_rows_read(code: RowCode, data: u64, check: u16) -> ReadWord;
+    fn desk_rows_explain(
+        code: RowCode,
+        data: u64,
+        check: u16,
+        limit: usize,
+        list: *mut u8,
+        list_length: usize,
+    ) -> Listing;
+    fn desk_rows_cards(code: RowCode, b: usize) -> CardCheck;
+    fn desk_rows_pass(
+        code: RowCode,
+        image: *mut u8,
+        image_length: usize,
+        start: usize,
+        end: usize,
+        journal: *mut u8,
+        journal_length: usize,
+        used: usize,
+        stamp: u32,
+    ) -> PassAnswer;
+    fn desk_rows_recover(code: RowCode, data: u64, check: u16, bad: *const usize, count: usize) -> Recovered;
+    fn desk_rows_find_bad(
+        code: RowCode,
+        first_data: u64,
+        first_check: u16,
+        second_data: u64,
+        second_check: u16,
+    ) -> BadPlaces;
+    fn desk_wide_rows_recover(
+        code: WideRowCode,
+        low: u64,
+        high: u64,
+        check: u16,
+        bad: *const usize,
+        count: usize,
+    ) -> WideRecovered;
+    fn desk_wide_rows_find_bad(code: WideRowCode, first: WideWord, second: WideWord) -> WideBadPlaces;
+    fn desk_wide_rows_judge(code: WideRowCode) -> Judgement;
+    fn desk_wide_rows_row_balance(code: WideRowCode) -> RowBalance;
+    fn desk_wide_rows_write(code: WideRowCode, low: u64, high: u64) -> CheckWord;
+    fn desk_wide_rows_read(code: WideRowCode, low: u64, high: u64, check: u16) -> WideReadWord;
+    fn desk_wide_rows_explain(
+        code: WideRowCode,
+        low: u64,
+        high: u64,
+        check: u16,
+        limit: usize,
+        list: *mut u8,
+        list_length: usize,
+    ) -> Listing;
+    fn desk_wide_rows_cards(code: WideRowCode, b: usize) -> CardCheck;
+    fn desk_wide_rows_pass(
+        code: WideRowCode,
+        image: *mut u8,
+        image_length: usize,
+        start: usize,
+        end: usize,
+        journal: *mut u8,
+        journal_length: usize,
+        used: usize,
+        stamp: u32,
+    ) -> PassAnswer;
 }
 
 /// Asks the archive, once it is known to be of this crate's version.
@@ -619,4 +715,114 @@ pub fn wide_recover(code: &WideCode, word: WideWord, bad: &[usize]) -> WideRecov
 /// [`find_bad`] of the wide edition.
 pub fn wide_find_bad(code: &WideCode, first: WideWord, second: WideWord) -> WideBadPlaces {
     ask!(desk_wide_find_bad(*code, first, second))
+}
+
+/// [`judge`] of a code with a set of rows; refuses with 1, 2, 3, 20 and 21.
+pub fn rows_judge(code: &RowCode) -> Judgement {
+    ask!(desk_rows_judge(*code))
+}
+
+/// [`row_balance`] of a code with a set of rows.
+pub fn rows_row_balance(code: &RowCode) -> RowBalance {
+    ask!(desk_rows_row_balance(*code))
+}
+
+/// [`write`](fn@write) of a code with a set of rows: the check bits are solved for.
+pub fn rows_write(code: &RowCode, data: u64) -> CheckWord {
+    ask!(desk_rows_write(*code, data))
+}
+
+/// [`read`] of a code with a set of rows.
+pub fn rows_read(code: &RowCode, data: u64, check: u16) -> ReadWord {
+    ask!(desk_rows_read(*code, data, check))
+}
+
+/// [`explain`] of a code with a set of rows.
+pub fn rows_explain(code: &RowCode, data: u64, check: u16, limit: usize, list: &mut [u8]) -> Listing {
+    ask!(desk_rows_explain(*code, data, check, limit, list.as_mut_ptr(), list.len()))
+}
+
+/// [`cards`] of a code with a set of rows.
+pub fn rows_cards(code: &RowCode, b: usize) -> CardCheck {
+    ask!(desk_rows_cards(*code, b))
+}
+
+/// [`pass`] under a code with a set of rows.
+pub fn rows_pass(
+    code: &RowCode,
+    image: &mut [u8],
+    start: usize,
+    end: usize,
+    journal: &mut [u8],
+    used: usize,
+    stamp: u32,
+) -> PassAnswer {
+    let (image, image_length) = (image.as_mut_ptr(), image.len());
+    let (journal, journal_length) = (journal.as_mut_ptr(), journal.len());
+    ask!(desk_rows_pass(*code, image, image_length, start, end, journal, journal_length, used, stamp))
+}
+
+/// [`wide_judge`] of a code with a set of rows; refuses with 1, 2, 3, 20 and 21.
+pub fn wide_rows_judge(code: &WideRowCode) -> Judgement {
+    ask!(desk_wide_rows_judge(*code))
+}
+
+/// [`wide_row_balance`] of a code with a set of rows.
+pub fn wide_rows_row_balance(code: &WideRowCode) -> RowBalance {
+    ask!(desk_wide_rows_row_balance(*code))
+}
+
+/// [`wide_write`] of a code with a set of rows: the check bits are solved for.
+pub fn wide_rows_write(code: &WideRowCode, low: u64, high: u64) -> CheckWord {
+    ask!(desk_wide_rows_write(*code, low, high))
+}
+
+/// [`wide_read`] of a code with a set of rows.
+pub fn wide_rows_read(code: &WideRowCode, word: WideWord) -> WideReadWord {
+    ask!(desk_wide_rows_read(*code, word.low, word.high, word.check))
+}
+
+/// [`wide_explain`] of a code with a set of rows.
+pub fn wide_rows_explain(code: &WideRowCode, word: WideWord, limit: usize, list: &mut [u8]) -> Listing {
+    ask!(desk_wide_rows_explain(*code, word.low, word.high, word.check, limit, list.as_mut_ptr(), list.len()))
+}
+
+/// [`wide_cards`] of a code with a set of rows.
+pub fn wide_rows_cards(code: &WideRowCode, b: usize) -> CardCheck {
+    ask!(desk_wide_rows_cards(*code, b))
+}
+
+/// [`wide_pass`] under a code with a set of rows.
+pub fn wide_rows_pass(
+    code: &WideRowCode,
+    image: &mut [u8],
+    start: usize,
+    end: usize,
+    journal: &mut [u8],
+    used: usize,
+    stamp: u32,
+) -> PassAnswer {
+    let (image, image_length) = (image.as_mut_ptr(), image.len());
+    let (journal, journal_length) = (journal.as_mut_ptr(), journal.len());
+    ask!(desk_wide_rows_pass(*code, image, image_length, start, end, journal, journal_length, used, stamp))
+}
+
+/// [`recover`] under a code with a set of rows.
+pub fn rows_recover(code: &RowCode, data: u64, check: u16, bad: &[usize]) -> Recovered {
+    ask!(desk_rows_recover(*code, data, check, bad.as_ptr(), bad.len()))
+}
+
+/// [`find_bad`] under a code with a set of rows.
+pub fn rows_find_bad(code: &RowCode, first: (u64, u16), second: (u64, u16)) -> BadPlaces {
+    ask!(desk_rows_find_bad(*code, first.0, first.1, second.0, second.1))
+}
+
+/// [`wide_recover`] under a code with a set of rows.
+pub fn wide_rows_recover(code: &WideRowCode, word: WideWord, bad: &[usize]) -> WideRecovered {
+    ask!(desk_wide_rows_recover(*code, word.low, word.high, word.check, bad.as_ptr(), bad.len()))
+}
+
+/// [`wide_find_bad`] under a code with a set of rows.
+pub fn wide_rows_find_bad(code: &WideRowCode, first: WideWord, second: WideWord) -> WideBadPlaces {
+    ask!(desk_wide_rows_find_bad(*code, first, second))
 }

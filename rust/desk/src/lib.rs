@@ -35,6 +35,9 @@
 //! Words of more than 64 data bits have an edition of their own: [`WideCode`] keeps 128 column places and has every
 //! question of [`Code`], over a [`WideWord`] of two halves, which an `u128` becomes. Sealed claims stay with [`Code`].
 //!
+//! Codes whose check columns need not be single ones are [`RowCode`] and [`WideRowCode`]: all n columns, and a set of rows
+//! within which each column is odd. They have every question that takes a code.
+//!
 //! Those who want the plain numbers of the archive find them in [`ffi`]. Either way the first call compares versions, and
 //! stops at an archive that is of another than [`VERSION`].
 #![deny(missing_docs, unsafe_code)]
@@ -46,6 +49,7 @@ mod bad;
 mod bytes;
 mod code;
 mod refusal;
+mod rows;
 mod sheet;
 mod tally;
 mod version;
@@ -55,7 +59,7 @@ mod word;
 pub use back::put_back;
 pub use bytes::{byte_read, byte_write, ByteReading, ByteVerdict};
 pub use code::check_bits_wanted;
-pub use ffi::{ByteNumber, Code, Sheet, Tally, WideCode, WideWord};
+pub use ffi::{ByteNumber, Code, RowCode, Sheet, Tally, WideCode, WideRowCode, WideWord};
 pub use refusal::Refusal;
 pub use sheet::{JudgedSheet, Limit, Station};
 pub use tally::Passed;

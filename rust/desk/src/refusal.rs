@@ -71,7 +71,8 @@ macro_rules! refusals {
 
 refusals! {
     1 DataBits,
-        "k is 0 or over 64; wide edition: over 128", "k is 0 or over 64, in the wide edition over 128";
+        "k is 0 or over 64; wide edition: over 128; with a set of rows k is n - r, and 0 where n is below r",
+        "k is 0 or over 64, in the wide edition over 128";
     2 CheckBits,
         "r below 3 or over 16", "r is below 3 or over 16";
     3 WideColumn { place = told "first bad place" },
@@ -116,8 +117,13 @@ refusals! {
         "device count 0 or over 65,535, word count 0 or over 65,535, mended above words, hours not finite or not above \
          zero, a limit's figure not finite or below zero, a band upside down",
         "the counts, the hours or the limit make no sheet";
+    20 RowSet { reason = told "reason" },
+        "codes with a set of rows, the first reason that holds: 1, the set is empty or names a row at r or above; 2, a zero \
+         or repeated column; 3, the last r columns are not triangular with ones on the diagonal; 4, a column has an even \
+         count of ones within the set",
+        "the code does not go with its set of rows, by reason {reason}";
     21 Leftover { place = told "first such place" },
-        "a place past k is not 0", "place {place}, past k, is not 0";
+        "a place past k is not 0; with a set of rows: past n", "place {place}, past the columns, is not 0";
     22 BadPlaces,
         "more than three bad places, a repeat, or a place at n or above",
         "the bad places are more than three, name one twice, or name one at n or above";
@@ -133,7 +139,7 @@ impl Refusal {
         self.plain().number
     }
 
-    /// What is told beside the number: a place, a length or the entries needed, 0 where nothing is told.
+    /// What is told beside the number: a place, a reason, a length or the entries needed, 0 where nothing is told.
     ///
     /// Card and mask of [`Refusal::WeakCard`] and the count of [`Refusal::Mismatch`] stand in those cases alone.
     pub fn told(self) -> usize {

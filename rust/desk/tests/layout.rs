@@ -57,6 +57,8 @@ fn rust_lays_out_every_struct_as_c_does() {
         lines!(WideMade { number, code } of WideMade { number: 0, code: WideCode { columns: [0; 128], k: 0, r: 0 } }),
         lines!(WideRecovered { number, told, word } of Default::default()),
         lines!(WideBadPlaces { number, told, word } of Default::default()),
+        lines!(RowCode { columns, n, r, rows } of RowCode { columns: [0; 80], n: 0, r: 0, rows: 0 }),
+        lines!(WideRowCode { columns, n, r, rows } of WideRowCode { columns: [0; 144], n: 0, r: 0, rows: 0 }),
     ];
     let expected: Vec<&str> = include_str!("../../../c/layout.txt").lines().collect();
     assert_eq!(lines.concat(), expected);

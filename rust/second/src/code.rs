@@ -1,6 +1,7 @@
 //! The code: its check by sets, the check bits wanted, the row balance.
 
 use crate::answers::{Balanced, Judged, Refusal, Wanted};
+use crate::cases::CasesOf;
 use std::collections::HashSet;
 use std::fmt;
 
@@ -22,22 +23,33 @@ impl Data for u128 {
     }
 }
 
-/// A code as one of the editions hands it about: nothing about it is trusted.
+/// A code as one of the editions hands it about, of either family: nothing about it is trusted.
 pub trait Coded: Copy + fmt::Debug + PartialEq {
     /// The data bits of a word.
     type Data: Data;
-    /// How many column places a code keeps, which is the most data bits.
+    /// The most data bits.
     const PLACES: usize;
     /// Bytes of a record, of an entry of the journal, and of the longest image.
     const RECORD: usize;
     const ENTRY: usize;
     const IMAGE: usize;
+    fn k(&self) -> usize;
+    fn r(&self) -> usize;
+    /// The n columns as switches, if it is accepted.
+    fn accepted(&self) -> Result<Vec<[bool; 16]>, Refusal>;
+    /// Whether row j counts where a syndrome is even or odd.
+    fn counts(&self, row: usize) -> bool;
+    /// A sound one, and one with something done to it.
+    fn sound(cases: &mut CasesOf<Self>) -> Self;
+    fn damaged(cases: &mut CasesOf<Self>) -> Self;
+}
+
+/// A code of Hsiao's family, which has as many column places as data bits at most.
+pub trait Hsiao: Coded {
     /// Its column places, of which the first are `columns` and the others 0, with k and r.
     fn with(columns: &[u16], k: usize, r: usize) -> Self;
     fn columns(&self) -> &[u16];
     fn columns_mut(&mut self) -> &mut [u16];
-    fn k(&self) -> usize;
-    fn r(&self) -> usize;
 }
 
 /// A code of one edition.
@@ -54,7 +66,7 @@ macro_rules! edition {
         impl $code {
             /// The code of these data columns, no more than it has places, with r check bits.
             pub fn of(data_columns: &[u16], r: usize) -> $code {
-                <$code as Coded>::with(data_columns, data_columns.len(), r)
+                <$code as Hsiao>::with(data_columns, data_columns.len(), r)
             }
         }
 
@@ -65,6 +77,32 @@ macro_rules! edition {
             const ENTRY: usize = $entry;
             const IMAGE: usize = $image;
 
+            fn k(&self) -> usize {
+                self.k
+            }
+
+            fn r(&self) -> usize {
+                self.r
+            }
+
+            fn accepted(&self) -> Result<Vec<[bool; 16]>, Refusal> {
+                accepted_columns(self)
+            }
+
+            fn counts(&self, _row: usize) -> bool {
+                true
+            }
+
+            fn sound(cases: &mut CasesOf<$code>) -> $code {
+                cases.sound_code()
+            }
+
+            fn damaged(cases: &mut CasesOf<$code>) -> $code {
+                cases.damaged_code()
+            }
+        }
+
+        impl Hsiao for $code {
             fn with(columns: &[u16], k: usize, r: usize) -> $code {
                 let mut places = [0; $places];
                 places[..columns.len()].copy_from_slice(columns);
@@ -77,14 +115,6 @@ macro_rules! edition {
 
             fn columns_mut(&mut self) -> &mut [u16] {
                 &mut self.columns
-            }
-
-            fn k(&self) -> usize {
-                self.k
-            }
-
-            fn r(&self) -> usize {
-                self.r
             }
         }
     };
@@ -111,7 +141,7 @@ pub fn switches(number: u128, width: usize) -> Vec<bool> {
 }
 
 /// A column as switches, row 0 first.
-fn rows_of(column: u16) -> [bool; 16] {
+pub fn rows_of(column: u16) -> [bool; 16] {
     let mut rest = column;
     [(); 16].map(|_| {
         let on = rest % 2 == 1;
@@ -142,7 +172,7 @@ fn column_fault(column: u16, r: usize, earlier: &HashSet<u16>) -> Option<usize> 
 }
 
 /// The n columns of an accepted code as switches: the data columns, then the check columns.
-pub fn accepted_columns<C: Coded>(code: &C) -> Result<Vec<[bool; 16]>, Refusal> {
+fn accepted_columns<C: Hsiao>(code: &C) -> Result<Vec<[bool; 16]>, Refusal> {
     let (places, k, r) = (code.columns(), code.k(), code.r());
     if !(1..=C::PLACES).contains(&k) {
         return Err(Refusal::plain(1));
@@ -166,7 +196,7 @@ pub fn accepted_columns<C: Coded>(code: &C) -> Result<Vec<[bool; 16]>, Refusal> 
 
 /// Is this a code?
 pub fn judge<C: Coded>(code: &C) -> Judged {
-    match accepted_columns(code) {
+    match code.accepted() {
         Ok(_) => Judged::default(),
         Err(refusal) => refusal.into(),
     }
@@ -174,7 +204,7 @@ pub fn judge<C: Coded>(code: &C) -> Judged {
 
 /// For each row j below r: r times the ones in row j, less all ones of the matrix.
 pub fn row_balance<C: Coded>(code: &C) -> Balanced {
-    let columns = match accepted_columns(code) {
+    let columns = match code.accepted() {
         Ok(columns) => columns,
         Err(refusal) => return refusal.into(),
     };

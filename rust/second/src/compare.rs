@@ -1,14 +1,16 @@
 //! The comparison: the same cases to every desk, every number and every byte of the answers.
 
-use crate::answers::{Explained, Judged, Passed, PutBack, Reading, Recovered, Written};
+use crate::answers::{Balanced, CardsChecked, Explained, Found, Judged, Passed, PutBack, Reading, Recovered, Written};
 use crate::cases::{
-    asked_shapes_in, edges, edges_of_bits, BackCase, BadCase, Cases, CasesOf, ImageCase, ListCase, TurnsCase, HUGE,
+    asked_shapes_in, edges, edges_of_bits, BackCase, BadCase, Cases, CasesOf, ImageCase, ListCase, TurnsCase, WordCase,
+    HUGE,
 };
-use crate::code::{Code, Coded, Data, WideCode};
-use crate::desk::{Desk, Questions, Second};
+use crate::code::{Code, Coded, Data, Hsiao, WideCode};
+use crate::desk::{Desk, OfCodes, Questions, Second};
 use crate::make::Made;
 use crate::orders::{both_passed, in_every_order, promised_orders, promised_overlap};
 use crate::pass::Pass;
+use crate::rows::Chosen;
 use std::collections::BTreeMap;
 use std::fmt;
 use std::time::{Duration, Instant};
@@ -145,7 +147,13 @@ impl Named for dyn Desk + '_ {
     }
 }
 
-impl<C: Coded> Named for dyn Questions<C> + '_ {
+impl<C: Coded> Named for dyn OfCodes<C> + '_ {
+    fn named(&self) -> &'static str {
+        self.name()
+    }
+}
+
+impl<C: Hsiao> Named for dyn Questions<C> + '_ {
     fn named(&self) -> &'static str {
         self.name()
     }
@@ -204,7 +212,7 @@ fn cases<C: Coded, T>(
 }
 
 /// The questions about the codes of one edition, and its put-back; that of the maker comes apart.
-fn compare_codes<C: Coded>(
+fn compare_codes<C: Hsiao>(
     desks: &[&dyn Questions<C>],
     amounts: &Amounts,
 ) -> Result<(Vec<Line>, Line), Box<Difference>> {
@@ -246,7 +254,7 @@ fn compare_codes<C: Coded>(
 }
 
 /// Passes of which image or journal has the other edition's size.
-fn compare_across<C: Coded>(desks: &[&dyn Questions<C>], amounts: &Amounts) -> Result<Line, Box<Difference>> {
+fn compare_across<C: Hsiao>(desks: &[&dyn Questions<C>], amounts: &Amounts) -> Result<Line, Box<Difference>> {
     let across = cases(amounts, 19, amounts.turns, CasesOf::<C>::across);
     ask("pass across", desks, across, |d, c| passed(d, c), |a| a.0.number)
 }
@@ -289,7 +297,7 @@ pub fn compare_wide(desks: &[&dyn Questions<WideCode>], amounts: &Amounts) -> Re
 }
 
 /// The questions about bad places.
-fn compare_bad<C: Coded>(desks: &[&dyn Questions<C>], amounts: &Amounts) -> Result<Vec<Line>, Box<Difference>> {
+fn compare_bad<C: Hsiao>(desks: &[&dyn Questions<C>], amounts: &Amounts) -> Result<Vec<Line>, Box<Difference>> {
     let small_bad = cases(amounts, 16, amounts.small_bad, CasesOf::<C>::small_bad).flatten();
     let bad = cases(amounts, 17, amounts.bad, CasesOf::<C>::bad);
     let finds = cases(amounts, 18, amounts.finds, CasesOf::<C>::find);
@@ -301,8 +309,121 @@ fn compare_bad<C: Coded>(desks: &[&dyn Questions<C>], amounts: &Amounts) -> Resu
 }
 
 /// The code word, where places are bad.
-fn recovered<C: Coded>(desk: &dyn Questions<C>, case: &BadCase<C>) -> Recovered<C::Data> {
+fn recovered<C: Coded, Q: OfCodes<C> + ?Sized>(desk: &Q, case: &BadCase<C>) -> Recovered<C::Data> {
     desk.recover(&case.word.code, case.word.data, case.word.check, &case.bad)
+}
+
+/// Every question that takes a code, of codes with a set of rows; and that an accepted old code is answered the same by both
+/// families.
+pub fn compare_rows<C: Chosen>(
+    desks: &[&dyn OfCodes<C>],
+    old: &[&dyn OfCodes<C::Old>],
+    amounts: &Amounts,
+) -> Result<Vec<Line>, Box<Difference>> {
+    let codes = || cases(amounts, 21, amounts.codes, CasesOf::<C>::code);
+    let words = || cases(amounts, 22, amounts.words / 20, CasesOf::<C>::word);
+    let lists = cases(amounts, 23, amounts.lists / 5, CasesOf::<C>::list);
+    let cards = cases(amounts, 24, amounts.cards / 5, CasesOf::<C>::card);
+    let images = cases(amounts, 25, amounts.images / 5, CasesOf::<C>::image);
+    let turns = cases(amounts, 26, amounts.turns / 5, CasesOf::<C>::turns);
+    let bad = cases(amounts, 28, amounts.bad / 5, CasesOf::<C>::bad);
+    let finds = cases(amounts, 29, amounts.finds / 5, CasesOf::<C>::find);
+    let sounds = cases(amounts, 27, amounts.codes / 20, CasesOf::<C::Old>::sound_word);
+    let both: Vec<Both<C>> = desks.iter().zip(old).map(|(&new, &old)| Both { new, old }).collect();
+    let both: Vec<&Both<C>> = both.iter().collect();
+    Ok(vec![
+        ask("judge", desks, codes(), |d, c| d.judge(c), by_reason)?,
+        ask("row balance", desks, codes(), |d, c| d.row_balance(c), |a| a.number)?,
+        ask("write", desks, words(), |d, w| d.write(&w.code, w.data), |a| a.number)?,
+        ask("read", desks, words(), |d, w| d.read(&w.code, w.data, w.check), |a| a.number)?,
+        ask("explain", desks, lists, |d, l| explained(d, l), |a| a.0.number)?,
+        ask("card check", desks, cards, |d, c| d.card_check(&c.code, c.b), |a| a.number)?,
+        ask("pass", desks, images, |d, i| passed(d, i), |a| a.0.number)?,
+        ask("passes", desks, turns, |d, t| passed_in_turn(d, t), |a| a.0.last().map_or(0, |last| last.number))?,
+        ask("bad places", desks, bad, |d, b| recovered(d, b), |a| a.number)?,
+        ask("find bad", desks, finds, |d, f| d.find_bad(&f.code, f.first, f.second), |a| a.number)?,
+        ask_promised(
+            "families",
+            &both,
+            sounds,
+            |w| Some(answers(&Second, &w.code, w)),
+            |b, w| b.agree(w),
+            |a| a.judged.number,
+        )?,
+    ])
+}
+
+/// What a reason of refusal 20 is counted under: 20 and the reason behind it.
+pub fn reason_number(reason: usize) -> usize {
+    200 + reason
+}
+
+fn by_reason(answer: &Judged) -> usize {
+    match answer.number {
+        20 => reason_number(answer.told),
+        number => number,
+    }
+}
+
+/// A desk's two families.
+struct Both<'a, C: Chosen> {
+    new: &'a dyn OfCodes<C>,
+    old: &'a dyn OfCodes<C::Old>,
+}
+
+impl<C: Chosen> Named for Both<'_, C> {
+    fn named(&self) -> &'static str {
+        self.new.name()
+    }
+}
+
+/// What is answered of a word under a code, question by question.
+#[derive(PartialEq, Debug)]
+struct Answers<D> {
+    judged: Judged,
+    balanced: Balanced,
+    written: Written,
+    reading: Reading<D>,
+    explained: (Explained, Vec<u8>),
+    cards: Vec<CardsChecked>,
+    passed: (Passed, Vec<u8>, Vec<u8>),
+    recovered: Recovered<D>,
+    found: Found<D>,
+}
+
+fn answers<C: Coded, D: Coded<Data = C::Data>>(
+    desk: &dyn OfCodes<C>,
+    code: &C,
+    word: &WordCase<D>,
+) -> Answers<C::Data> {
+    let (data, check): (u128, u16) = (word.data.into(), word.check);
+    let mut list = vec![0xD5; C::PLACES + 16];
+    let explained = desk.explain(code, word.data, check, 2, &mut list);
+    let bytes = [data.to_le_bytes()[..C::PLACES / 8].to_vec(), check.to_le_bytes().to_vec()].concat();
+    let (mut image, mut journal) = (bytes.repeat(2), vec![0xD5; 2 * C::ENTRY]);
+    let asked = Pass { start: 0, end: 2, used: 0, stamp: 7 };
+    let passed = desk.pass(code, &mut image, &mut journal, &asked);
+    Answers {
+        judged: desk.judge(code),
+        balanced: desk.row_balance(code),
+        written: desk.write(code, word.data),
+        reading: desk.read(code, word.data, check),
+        explained: (explained, list),
+        cards: (2..=4).map(|b| desk.card_check(code, b)).collect(),
+        passed: (passed, image, journal),
+        recovered: desk.recover(code, word.data, check, &[0, C::PLACES % (code.k() + code.r()).max(1)]),
+        found: desk.find_bad(code, (word.data, check), (C::Data::of(0), check)),
+    }
+}
+
+impl<C: Chosen> Both<'_, C> {
+    /// The answers of the new family, if they are those of the old one too.
+    fn agree(&self, word: &WordCase<C::Old>) -> Answers<C::Data> {
+        let old = answers(self.old, &word.code, word);
+        let new = answers(self.new, &C::from_old(&word.code), word);
+        assert_eq!(old, new, "{}: both families of {:?}", self.new.name(), word);
+        new
+    }
 }
 
 /// Bytes on either side of a lent buffer, which no desk may touch.
@@ -333,14 +454,14 @@ impl Lent {
 }
 
 /// The answer and every byte of the list, guards too.
-fn explained<C: Coded>(desk: &dyn Questions<C>, case: &ListCase<C>) -> (Explained, Vec<u8>) {
+fn explained<C: Coded, Q: OfCodes<C> + ?Sized>(desk: &Q, case: &ListCase<C>) -> (Explained, Vec<u8>) {
     let ListCase { word, limit, list } = case;
     let mut list = Lent::new(list);
     (desk.explain(&word.code, word.data, word.check, *limit, list.bytes()), list.0)
 }
 
 /// The answer and every byte of the image and of the journal, guards too.
-fn passed<C: Coded>(desk: &dyn Questions<C>, case: &ImageCase<C>) -> (Passed, Vec<u8>, Vec<u8>) {
+fn passed<C: Coded, Q: OfCodes<C> + ?Sized>(desk: &Q, case: &ImageCase<C>) -> (Passed, Vec<u8>, Vec<u8>) {
     let ImageCase { code, image, journal, asked } = case;
     let (mut image, mut journal) = (Lent::new(image), Lent::new(journal));
     (desk.pass(code, image.bytes(), journal.bytes(), asked), image.0, journal.0)
@@ -349,7 +470,7 @@ fn passed<C: Coded>(desk: &dyn Questions<C>, case: &ImageCase<C>) -> (Passed, Ve
 /// The answers of passes that go by the count handed back, and every byte of the image and of the journal, guards too.
 type InTurn = (Vec<Passed>, Vec<u8>, Vec<u8>);
 
-fn passed_in_turn<C: Coded>(desk: &dyn Questions<C>, case: &TurnsCase<C>) -> InTurn {
+fn passed_in_turn<C: Coded, Q: OfCodes<C> + ?Sized>(desk: &Q, case: &TurnsCase<C>) -> InTurn {
     let (mut image, mut journal) = (Lent::new(&case.image), Lent::new(&case.journal));
     let answers = turns(desk, case, &mut image, &mut journal, |_| ());
     (answers, image.0, journal.0)
@@ -357,8 +478,8 @@ fn passed_in_turn<C: Coded>(desk: &dyn Questions<C>, case: &TurnsCase<C>) -> InT
 
 /// Passes that go by the count handed back, from a journal of which nothing is in use; `seen` is shown the image after each
 /// that is done.
-fn turns<C: Coded>(
-    desk: &dyn Questions<C>,
+fn turns<C: Coded, Q: OfCodes<C> + ?Sized>(
+    desk: &Q,
     case: &TurnsCase<C>,
     image: &mut Lent,
     journal: &mut Lent,
@@ -377,7 +498,7 @@ fn turns<C: Coded>(
 }
 
 /// The answer and every byte of the image and of the journal, guards too.
-fn put_back<C: Coded>(desk: &dyn Questions<C>, case: &BackCase) -> (PutBack, Vec<u8>, Vec<u8>) {
+fn put_back<C: Hsiao>(desk: &dyn Questions<C>, case: &BackCase) -> (PutBack, Vec<u8>, Vec<u8>) {
     let (mut image, mut journal) = (Lent::new(&case.image), Lent::new(&case.journal));
     (desk.put_back(image.bytes(), journal.bytes(), case.used), image.0, journal.0)
 }
@@ -400,7 +521,7 @@ fn counts_in_use(answers: &[Passed]) -> Vec<usize> {
     [0].into_iter().chain(done).collect()
 }
 
-fn history<C: Coded>(desk: &dyn Questions<C>, case: &TurnsCase<C>) -> History {
+fn history<C: Hsiao>(desk: &dyn Questions<C>, case: &TurnsCase<C>) -> History {
     let passes = passed_in_turn(desk, case);
     let counts = counts_in_use(&passes.0);
     let (mut image, mut journal) = (Lent(passes.1.clone()), Lent(passes.2.clone()));
@@ -419,7 +540,7 @@ fn history<C: Coded>(desk: &dyn Questions<C>, case: &TurnsCase<C>) -> History {
 
 /// What 02's request 104 promises of a history, by whole copies of the image and with no put-back: all entries are put
 /// back, pass by pass the copy from before it comes again, the journal stays, and the same passes do the same again.
-fn promised<C: Coded>(case: &TurnsCase<C>) -> History {
+fn promised<C: Hsiao>(case: &TurnsCase<C>) -> History {
     let (mut image, mut journal) = (Lent::new(&case.image), Lent::new(&case.journal));
     let mut copies = vec![image.0.clone()];
     let answers = turns(&Second, case, &mut image, &mut journal, |left| copies.push(left.0.clone()));
@@ -445,7 +566,7 @@ fn cut(number: u128, bits: usize) -> u128 {
 
 /// What is made, how its code is judged, and each word written to it and read from it: as written, with one flip and with
 /// two; in the wide edition also with one on either side of the halves.
-fn made<C: Coded>(
+fn made<C: Hsiao>(
     desk: &dyn Questions<C>,
     &(k, r): &(usize, usize),
 ) -> (Made<C>, Judged, Vec<(Written, Vec<Reading<C::Data>>)>) {

@@ -3,7 +3,7 @@
 use crate::answers::{Balanced, CardsChecked, Explained, Found, Judged, Passed, PutBack, Reading, Recovered};
 use crate::answers::{Wanted, Written};
 use crate::bytes::{ByteRead, ByteWritten};
-use crate::code::{Code, Coded};
+use crate::code::{Code, Coded, Hsiao};
 use crate::make::Made;
 use crate::pass::Pass;
 use crate::sheet::{Sheeted, Station};
@@ -31,10 +31,9 @@ pub trait Desk {
     fn mend(&self, input: &[u8]) -> String;
 }
 
-/// Every question about the codes of one edition.
-pub trait Questions<C: Coded> {
+/// Every question that takes a code, of one family and edition.
+pub trait OfCodes<C: Coded> {
     fn name(&self) -> &'static str;
-    fn wanted(&self, k: usize) -> Wanted;
     fn judge(&self, code: &C) -> Judged;
     fn row_balance(&self, code: &C) -> Balanced;
     fn write(&self, code: &C, data: C::Data) -> Written;
@@ -42,20 +41,21 @@ pub trait Questions<C: Coded> {
     fn explain(&self, code: &C, data: C::Data, check: u16, limit: usize, list: &mut [u8]) -> Explained;
     fn card_check(&self, code: &C, b: usize) -> CardsChecked;
     fn pass(&self, code: &C, image: &mut [u8], journal: &mut [u8], asked: &Pass) -> Passed;
-    fn put_back(&self, image: &mut [u8], journal: &mut [u8], used: usize) -> PutBack;
-    fn make(&self, k: usize, r: usize) -> Made<C>;
     fn recover(&self, code: &C, data: C::Data, check: u16, bad: &[usize]) -> Recovered<C::Data>;
     fn find_bad(&self, code: &C, first: (C::Data, u16), second: (C::Data, u16)) -> Found<C::Data>;
 }
 
+/// And the others of an edition, whose codes are made of Hsiao's family.
+pub trait Questions<C: Hsiao>: OfCodes<C> {
+    fn wanted(&self, k: usize) -> Wanted;
+    fn put_back(&self, image: &mut [u8], journal: &mut [u8], used: usize) -> PutBack;
+    fn make(&self, k: usize, r: usize) -> Made<C>;
+}
+
 /// A desk answers those of the ten-byte edition.
-impl Questions<Code> for &dyn Desk {
+impl OfCodes<Code> for &dyn Desk {
     fn name(&self) -> &'static str {
         (**self).name()
-    }
-
-    fn wanted(&self, k: usize) -> Wanted {
-        (**self).wanted(k)
     }
 
     fn judge(&self, code: &Code) -> Judged {
@@ -86,20 +86,26 @@ impl Questions<Code> for &dyn Desk {
         (**self).pass(code, image, journal, asked)
     }
 
-    fn put_back(&self, image: &mut [u8], journal: &mut [u8], used: usize) -> PutBack {
-        (**self).put_back(image, journal, used)
-    }
-
-    fn make(&self, k: usize, r: usize) -> Made {
-        (**self).make(k, r)
-    }
-
     fn recover(&self, code: &Code, data: u64, check: u16, bad: &[usize]) -> Recovered {
         (**self).recover(code, data, check, bad)
     }
 
     fn find_bad(&self, code: &Code, first: (u64, u16), second: (u64, u16)) -> Found {
         (**self).find_bad(code, first, second)
+    }
+}
+
+impl Questions<Code> for &dyn Desk {
+    fn wanted(&self, k: usize) -> Wanted {
+        (**self).wanted(k)
+    }
+
+    fn put_back(&self, image: &mut [u8], journal: &mut [u8], used: usize) -> PutBack {
+        (**self).put_back(image, journal, used)
+    }
+
+    fn make(&self, k: usize, r: usize) -> Made {
+        (**self).make(k, r)
     }
 }
 
@@ -178,13 +184,9 @@ impl Desk for Second {
 }
 
 /// In any edition it goes by the same brute force.
-impl<C: Coded> Questions<C> for Second {
+impl<C: Coded> OfCodes<C> for Second {
     fn name(&self) -> &'static str {
         "second"
-    }
-
-    fn wanted(&self, k: usize) -> Wanted {
-        crate::wanted_in::<C>(k)
     }
 
     fn judge(&self, code: &C) -> Judged {
@@ -215,19 +217,25 @@ impl<C: Coded> Questions<C> for Second {
         crate::pass(code, image, journal, asked)
     }
 
-    fn put_back(&self, image: &mut [u8], journal: &mut [u8], used: usize) -> PutBack {
-        crate::put_back_in::<C>(image, journal, used)
-    }
-
-    fn make(&self, k: usize, r: usize) -> Made<C> {
-        crate::make_in(k, r)
-    }
-
     fn recover(&self, code: &C, data: C::Data, check: u16, bad: &[usize]) -> Recovered<C::Data> {
         crate::recover(code, data, check, bad)
     }
 
     fn find_bad(&self, code: &C, first: (C::Data, u16), second: (C::Data, u16)) -> Found<C::Data> {
         crate::find_bad(code, first, second)
+    }
+}
+
+impl<C: Hsiao> Questions<C> for Second {
+    fn wanted(&self, k: usize) -> Wanted {
+        crate::wanted_in::<C>(k)
+    }
+
+    fn put_back(&self, image: &mut [u8], journal: &mut [u8], used: usize) -> PutBack {
+        crate::put_back_in::<C>(image, journal, used)
+    }
+
+    fn make(&self, k: usize, r: usize) -> Made<C> {
+        crate::make_in(k, r)
     }
 }

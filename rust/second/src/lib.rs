@@ -5,6 +5,9 @@
 //! explanations and cards flip places and ask that again. The syndrome is handed out, and its ones are counted where no
 //! flip helps; nothing is looked up by it, no columns are mixed, and nothing is shared with the desk.
 //!
+//! Codes with a chosen set of rows are a second family ([`Chosen`]): a word is clean when every row counts an even number of
+//! places that are on, and writing tries all check bits.
+//!
 //! Of passes in any order it says what they must leave, without running one.
 //!
 //! The questions are [`wanted`], [`judge`], [`row_balance`], [`write`], [`read`], [`explain`], [`card_check`], [`pass`],
@@ -28,6 +31,7 @@ mod orders;
 mod pass;
 mod program;
 mod random;
+mod rows;
 mod sheet;
 mod word;
 mod worked;
@@ -39,14 +43,15 @@ pub use bad::{find_bad, recover};
 pub use bytes::{byte_read, byte_write, single_errors, spoilt, ByteRead, ByteWritten};
 pub use cards::card_check;
 pub use cases::{Cases, CasesOf};
-pub use code::{judge, row_balance, wanted, wanted_in, Code, Coded, WideCode};
-pub use compare::{compare, compare_narrow, compare_wide, Amounts, Difference, Line};
-pub use desk::{Desk, Questions, Second};
+pub use code::{judge, row_balance, wanted, wanted_in, Code, Coded, Hsiao, WideCode};
+pub use compare::{compare, compare_narrow, compare_rows, compare_wide, reason_number, Amounts, Difference, Line};
+pub use desk::{Desk, OfCodes, Questions, Second};
 pub use explain::explain;
 pub use make::{make, make_in, Made};
 pub use pass::{counted, pass, stamp_of, Pass};
 pub use program::{mend, run, sample_code};
 pub use random::Random;
+pub use rows::{Chosen, RowCode, WideRowCode};
 pub use sheet::{share, sheet, Limit, Sheeted, Station};
 pub use word::{read, write};
-pub use worked::{worked, worked_wide};
+pub use worked::{worked, worked_rows, worked_wide};

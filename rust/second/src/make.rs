@@ -1,6 +1,6 @@
 //! The maker: every number below 2^r is tried, and those that may be columns are sorted.
 
-use crate::code::{ones, switches, Code, Coded};
+use crate::code::{ones, switches, Code, Hsiao};
 
 /// What is made; a refusal hands back a code of zeros.
 #[derive(Clone, Copy, PartialEq, Eq, Debug)]
@@ -15,7 +15,7 @@ pub fn make(k: usize, r: usize) -> Made {
 }
 
 /// The same in any edition.
-pub fn make_in<C: Coded>(k: usize, r: usize) -> Made<C> {
+pub fn make_in<C: Hsiao>(k: usize, r: usize) -> Made<C> {
     let refused = |number: usize| Made { number, code: C::with(&[], 0, 0) };
     if !(1..=C::PLACES).contains(&k) {
         return refused(1);

@@ -2,7 +2,7 @@
 //! once and no pass run; a desk is asked for every order.
 
 use crate::cases::{OrdersCase, OverlapCase};
-use crate::code::Coded;
+use crate::code::Hsiao;
 use crate::compare::Lent;
 use crate::desk::Questions;
 use crate::pass::{see, stamp_of, Pass, Seen};
@@ -19,7 +19,7 @@ fn record_of(entry: &[u8]) -> usize {
 }
 
 /// Every record of the image, read.
-fn read_all<C: Coded>(code: &C, image: &[u8]) -> Vec<Seen> {
+fn read_all<C: Hsiao>(code: &C, image: &[u8]) -> Vec<Seen> {
     let code = Accepted::new(code).unwrap_or_else(|_| panic!("the case has a sound code"));
     image.chunks_exact(C::RECORD).enumerate().map(|(record, bytes)| see(&code, record, bytes)).collect()
 }
@@ -40,14 +40,14 @@ pub struct Left {
 }
 
 /// The journal before the entries from one count in use up to another, these, and what is behind them, guards too.
-fn parted<C: Coded>(journal: &Lent, from: usize, to: usize) -> (Vec<u8>, Vec<Vec<u8>>, Vec<u8>) {
+fn parted<C: Hsiao>(journal: &Lent, from: usize, to: usize) -> (Vec<u8>, Vec<Vec<u8>>, Vec<u8>) {
     let (front, rest) = journal.halves(C::ENTRY.saturating_mul(from));
     let (new, tail) = rest.split_at(C::ENTRY.saturating_mul(to.saturating_sub(from)).min(rest.len()));
     (front.to_vec(), new.chunks_exact(C::ENTRY).map(<[u8]>::to_vec).collect(), tail.to_vec())
 }
 
 /// What every order of the passes must leave: one and the same.
-pub fn promised_orders<C: Coded>(case: &OrdersCase<C>) -> Vec<Left> {
+pub fn promised_orders<C: Hsiao>(case: &OrdersCase<C>) -> Vec<Left> {
     let seen = read_all(&case.code, &case.image);
     let is_passed = |one: &&Seen| case.runs.iter().any(|&(start, end)| start <= one.record && one.record < end);
     let passed: Vec<&Seen> = seen.iter().filter(is_passed).collect();
@@ -67,7 +67,7 @@ pub fn promised_orders<C: Coded>(case: &OrdersCase<C>) -> Vec<Left> {
 }
 
 /// What one order of the passes leaves: the runs by their places in the case, in the order in which they are passed over.
-fn left_by<C: Coded>(desk: &dyn Questions<C>, case: &OrdersCase<C>, order: &[usize]) -> Left {
+fn left_by<C: Hsiao>(desk: &dyn Questions<C>, case: &OrdersCase<C>, order: &[usize]) -> Left {
     let (mut image, mut journal) = (Lent::new(&case.image), Lent::new(&case.journal));
     let (mut used, mut stamps, mut answers) = (case.used, Vec::new(), vec![(0, [0; 6]); order.len()]);
     for (&run, &stamp) in order.iter().zip(&case.stamps) {
@@ -95,7 +95,7 @@ fn orders_of(count: usize) -> Vec<Vec<usize>> {
 }
 
 /// All that the orders of the passes leave, each once: so one, where every order leaves the same.
-pub fn in_every_order<C: Coded>(desk: &dyn Questions<C>, case: &OrdersCase<C>) -> Vec<Left> {
+pub fn in_every_order<C: Hsiao>(desk: &dyn Questions<C>, case: &OrdersCase<C>) -> Vec<Left> {
     let mut all = Vec::new();
     for left in orders_of(case.runs.len()).iter().map(|order| left_by(desk, case, order)) {
         if !all.contains(&left) {
@@ -130,7 +130,7 @@ fn in_both<C>(case: &OverlapCase<C>) -> std::ops::Range<usize> {
 }
 
 /// What must come of them: a mended record is clean to the last pass, an unmended one is entered again.
-pub fn promised_overlap<C: Coded>(case: &OverlapCase<C>) -> Shared {
+pub fn promised_overlap<C: Hsiao>(case: &OverlapCase<C>) -> Shared {
     let seen = read_all(&case.code, &case.image);
     let in_both_runs = |record: usize| {
         let one = &seen[record];
@@ -142,7 +142,7 @@ pub fn promised_overlap<C: Coded>(case: &OverlapCase<C>) -> Shared {
 }
 
 /// What comes of them at this desk.
-pub fn both_passed<C: Coded>(desk: &dyn Questions<C>, case: &OverlapCase<C>) -> Shared {
+pub fn both_passed<C: Hsiao>(desk: &dyn Questions<C>, case: &OverlapCase<C>) -> Shared {
     let (mut image, mut journal) = (Lent::new(&case.image), Lent::new(&case.journal));
     let (mut used, mut made) = (case.used, Vec::new());
     for &(start, end, stamp) in &case.passes {

@@ -1,7 +1,7 @@
 //! Words as n switches, and their writing and reading by flips.
 
 use crate::answers::{Reading, Refusal, Written};
-use crate::code::{accepted_columns, ones, switches, Coded, Data};
+use crate::code::{switches, Coded, Data};
 
 /// The place that is handed back where none is meant.
 pub const NO_PLACE: usize = 255;
@@ -12,16 +12,26 @@ pub struct Accepted {
     pub places: usize,
     pub k: usize,
     pub r: usize,
-    /// For each check bit: the data bits whose column has that bit.
+    /// For each row: the data places, and the check places, whose column has it.
     feeders: Vec<Vec<usize>>,
+    checks: Vec<Vec<usize>>,
+    /// For each row: whether it counts where a syndrome is even or odd.
+    counts: Vec<bool>,
 }
 
 impl Accepted {
     pub fn new<C: Coded>(code: &C) -> Result<Accepted, Refusal> {
-        let columns = accepted_columns(code)?;
+        let columns = code.accepted()?;
         let (k, r) = (code.k(), code.r());
-        let feeders_of = |row: usize| (0..k).filter(|&place| columns[place][row]).collect();
-        Ok(Accepted { places: C::PLACES, k, r, feeders: (0..r).map(feeders_of).collect() })
+        let fed = |row: usize, from: usize, to: usize| (from..to).filter(|&place| columns[place][row]).collect();
+        Ok(Accepted {
+            places: C::PLACES,
+            k,
+            r,
+            feeders: (0..r).map(|row| fed(row, 0, k)).collect(),
+            checks: (0..r).map(|row| fed(row, k, k + r)).collect(),
+            counts: (0..r).map(|row| code.counts(row)).collect(),
+        })
     }
 
     /// How many places a word has.
@@ -29,21 +39,46 @@ impl Accepted {
         self.k + self.r
     }
 
-    /// The exclusive or of the data bits that feed check bit `j`: are an odd number of them on?
+    /// The exclusive or of the data bits that feed row `j`: are an odd number of them on?
     fn written_bit(&self, word: &[bool], j: usize) -> bool {
         self.feeders[j].iter().filter(|&&place| word[place]).count() % 2 == 1
     }
 
-    /// Sets the check places to what writing the data places gives.
+    /// Whether the places of a row that are on, data and check bits, are an odd number.
+    fn is_odd(&self, word: &[bool], row: usize) -> bool {
+        let checks = self.checks[row].iter().filter(|&&place| word[place]).count();
+        self.written_bit(word, row) != (checks % 2 == 1)
+    }
+
+    /// Does each check bit stand in a row of its own, and in no other?
+    fn has_single_ones(&self) -> bool {
+        self.checks.iter().enumerate().all(|(row, places)| places[..] == [self.k + row])
+    }
+
+    /// Sets the check places to what writing the data places gives: where check bits share rows, by trying them all.
     pub fn write(&self, word: &mut [bool]) {
-        for j in 0..self.r {
-            word[self.k + j] = self.written_bit(word, j);
+        if self.has_single_ones() {
+            for j in 0..self.r {
+                word[self.k + j] = self.written_bit(word, j);
+            }
+            return;
+        }
+        word[self.k..].fill(false);
+        while !self.is_clean(word) {
+            // The next check bits, counting up; behind the last come the first again.
+            for place in self.k..self.n() {
+                word[place] = !word[place];
+                if word[place] {
+                    break;
+                }
+            }
+            assert!(word[self.k..].contains(&true), "an accepted code has check bits for every word");
         }
     }
 
-    /// Does writing the data give the check bits?
+    /// Does no row count an odd number of places that are on?
     pub fn is_clean(&self, word: &[bool]) -> bool {
-        (0..self.r).all(|j| self.written_bit(word, j) == word[self.k + j])
+        (0..self.r).all(|row| !self.is_odd(word, row))
     }
 
     /// Verdict and place of a word as read.
@@ -59,13 +94,14 @@ impl Accepted {
             }
             tried[place] = !tried[place];
         }
-        // Even and odd are the table's own words: how many check bits are not the written ones.
-        (if ones(&self.syndrome(word)) % 2 == 0 { 3 } else { 4 }, NO_PLACE)
+        // Even and odd are the table's own words: how many rows that count are odd.
+        let odd = (0..self.r).filter(|&row| self.counts[row] && self.is_odd(word, row)).count();
+        (if odd % 2 == 0 { 3 } else { 4 }, NO_PLACE)
     }
 
-    /// The syndrome in the document's words: the written check bits of the data as read, exclusive-ored with those as read.
+    /// The syndrome: which rows are odd. With single ones these are the check bits that are not the written ones.
     pub fn syndrome(&self, word: &[bool]) -> Vec<bool> {
-        (0..self.r).map(|j| self.written_bit(word, j) != word[self.k + j]).collect()
+        (0..self.r).map(|row| self.is_odd(word, row)).collect()
     }
 
     /// The word of all data switches of an edition and 16 check switches, unless one of them is stray.

@@ -1,8 +1,9 @@
 //! The worked cases of documents 01 and 02: one text, tests/worked.txt, that any desk is asked. The text says what its lines mean.
 
-use crate::code::{ones, switches, Code, Coded, Data, WideCode};
-use crate::desk::{Desk, Questions};
+use crate::code::{ones, switches, Code, Coded, Data, Hsiao, WideCode};
+use crate::desk::{Desk, OfCodes, Questions};
 use crate::pass::Pass;
+use crate::rows::{Chosen, RowCode};
 use std::fmt::UpperHex;
 use std::str::FromStr;
 
@@ -19,7 +20,14 @@ struct Worked<C> {
 /// Puts every worked case of the ten-byte edition to the desk: the lines of the text that come out otherwise, none if all
 /// is well.
 pub fn worked(desk: &dyn Desk) -> Vec<String> {
-    worked_in::<Code>(&desk, |line| if line.starts_with("wide ") { None } else { Some(line) })
+    fn own(line: &'static str) -> Option<&'static str> {
+        if line.starts_with("wide ") || line.starts_with("rows ") {
+            None
+        } else {
+            Some(line)
+        }
+    }
+    worked_in::<Code>(&desk, own)
 }
 
 /// The same for the wide edition, whose lines begin with `wide`.
@@ -27,7 +35,34 @@ pub fn worked_wide(desk: &dyn Questions<WideCode>) -> Vec<String> {
     worked_in(desk, |line| line.strip_prefix("wide "))
 }
 
-fn worked_in<C: Coded>(desk: &dyn Questions<C>, own: fn(&'static str) -> Option<&'static str>) -> Vec<String> {
+/// The same for codes with a set of rows, whose lines begin with `rows`.
+pub fn worked_rows(desk: &dyn OfCodes<RowCode>) -> Vec<String> {
+    let mut code = RowCode::with(&[], 0, 0, 0);
+    let mut otherwise = Vec::new();
+    let lines = include_str!("../../../tests/worked.txt").lines();
+    for line in lines.filter_map(|line| line.strip_prefix("rows ")) {
+        if let Some((question, _)) = line.split_once('=') {
+            let answered = match ask_code(desk, &code, question) {
+                Some(answer) => format!("{}={}", question, answer),
+                None => panic!("{} is no question", question),
+            };
+            if answered != line {
+                otherwise.push(answered);
+            }
+            continue;
+        }
+        match line.replace(':', " ").split_whitespace().collect::<Vec<&str>>()[..] {
+            ["code", n, r, rows, ref columns @ ..] => {
+                let columns: Vec<u16> = columns.iter().map(|column| number(column)).collect();
+                code = RowCode::with(&columns, number(n), number(r), number(rows));
+            }
+            _ => panic!("{:?} is about nothing", line),
+        }
+    }
+    otherwise
+}
+
+fn worked_in<C: Hsiao>(desk: &dyn Questions<C>, own: fn(&'static str) -> Option<&'static str>) -> Vec<String> {
     let mut worked = Worked { code: C::with(&[], 0, 0), image: Vec::new(), journal: Vec::new() };
     let mut otherwise = Vec::new();
     let lines = include_str!("../../../tests/worked.txt").lines().filter(|line| !line.starts_with('#'));
@@ -69,7 +104,42 @@ fn changed(bytes: &[u8]) -> &[u8] {
     &bytes[..end]
 }
 
-impl<C: Coded> Worked<C> {
+/// What the desk answers to a question that takes a code and numbers alone, with a space before each number.
+fn ask_code<C: Coded, Q: OfCodes<C> + ?Sized>(desk: &Q, code: &C, question: &str) -> Option<String> {
+    Some(match question.split_whitespace().collect::<Vec<&str>>()[..] {
+        ["judge"] => {
+            let a = desk.judge(code);
+            said(&[a.number, a.told])
+        }
+        ["balance"] => {
+            let a = desk.row_balance(code);
+            said(&[a.number, a.told]) + &said(&a.rows)
+        }
+        ["write", d] => {
+            let a = desk.write(code, C::Data::of(data(d)));
+            said(&[a.number, a.told]) + &said(&[a.check])
+        }
+        ["read", d, c] => {
+            let a = desk.read(code, C::Data::of(data(d)), number(c));
+            said(&[a.number, a.told, a.verdict, a.place])
+                + &hex(&[Into::<u128>::into(a.data)], 1)
+                + &said(&[a.check, a.syndrome])
+        }
+        ["explain", d, c, limit, room] => {
+            let mut list = [FILL; 144];
+            let a =
+                desk.explain(code, C::Data::of(data(d)), number(c), number(limit), &mut list[..number::<usize>(room)]);
+            said(&[a.number, a.told, a.length]) + &said(changed(&list))
+        }
+        ["cards", b] => {
+            let a = desk.card_check(code, number(b));
+            said(&[a.number, a.told, a.card, a.mask])
+        }
+        _ => return None,
+    })
+}
+
+impl<C: Hsiao> Worked<C> {
     /// A line that says what the next questions are about.
     fn set(&mut self, line: &str) {
         let line = line.replace(':', " ");
@@ -97,6 +167,9 @@ impl<C: Coded> Worked<C> {
     /// What the desk answers to a question, with a space before each number.
     fn ask(&mut self, desk: &dyn Questions<C>, question: &str) -> String {
         let code = &self.code;
+        if let Some(answer) = ask_code(desk, code, question) {
+            return answer;
+        }
         match question.split_whitespace().collect::<Vec<&str>>()[..] {
             ["wanted", from, to] => {
                 let mut answers: Vec<_> = (number(from)..=number(to)).map(|k| desk.wanted(k)).collect();
@@ -109,43 +182,10 @@ impl<C: Coded> Worked<C> {
                 let end = a.code.columns().iter().rposition(|&column| column != 0).map_or(0, |last| last + 1);
                 said(&[a.number, a.code.k(), a.code.r()]) + &said(&a.code.columns()[..end])
             }
-            ["judge"] => {
-                let a = desk.judge(code);
-                said(&[a.number, a.told])
-            }
             ["ones"] => {
                 let columns = &code.columns()[..code.k()];
                 let data: usize = columns.iter().map(|&column| ones(&switches(column.into(), 16))).sum();
                 said(&[data + code.r()])
-            }
-            ["balance"] => {
-                let a = desk.row_balance(code);
-                said(&[a.number, a.told]) + &said(&a.rows)
-            }
-            ["write", d] => {
-                let a = desk.write(code, C::Data::of(data(d)));
-                said(&[a.number, a.told]) + &said(&[a.check])
-            }
-            ["read", d, c] => {
-                let a = desk.read(code, C::Data::of(data(d)), number(c));
-                said(&[a.number, a.told, a.verdict, a.place])
-                    + &hex(&[Into::<u128>::into(a.data)], 1)
-                    + &said(&[a.check, a.syndrome])
-            }
-            ["explain", d, c, limit, room] => {
-                let mut list = [FILL; 144];
-                let a = desk.explain(
-                    code,
-                    C::Data::of(data(d)),
-                    number(c),
-                    number(limit),
-                    &mut list[..number::<usize>(room)],
-                );
-                said(&[a.number, a.told, a.length]) + &said(changed(&list))
-            }
-            ["cards", b] => {
-                let a = desk.card_check(code, number(b));
-                said(&[a.number, a.told, a.card, a.mask])
             }
             ["pass", start, end, length, used, stamp] => {
                 let asked = Pass { start: number(start), end: number(end), used: number(used), stamp: number(stamp) };

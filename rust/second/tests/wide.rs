@@ -72,17 +72,9 @@ impl Wrong {
     }
 }
 
-impl Questions<WideCode> for Wrong {
+impl OfCodes<WideCode> for Wrong {
     fn name(&self) -> &'static str {
         "wrong"
-    }
-
-    fn wanted(&self, k: usize) -> Wanted {
-        let mut answer = wanted_in::<WideCode>(k);
-        if self.has(EightCheckBits) {
-            answer.check_bits = answer.check_bits.min(8);
-        }
-        answer
     }
 
     fn judge(&self, code: &WideCode) -> Judged {
@@ -151,17 +143,6 @@ impl Questions<WideCode> for Wrong {
         answer
     }
 
-    fn put_back(&self, image: &mut [u8], journal: &mut [u8], used: usize) -> PutBack {
-        if self.has(TenByteEntriesBack) {
-            return put_back_in::<Code>(image, journal, used);
-        }
-        put_back_in::<WideCode>(image, journal, used)
-    }
-
-    fn make(&self, k: usize, r: usize) -> Made<WideCode> {
-        make_in(k, r)
-    }
-
     fn recover(&self, code: &WideCode, data: u128, check: u16, bad: &[usize]) -> Recovered<u128> {
         let answer = recover(code, self.seen(data), check, bad);
         if self.has(EightyPlaces) && answer.number == 0 && bad.iter().any(|&place| place >= 80) {
@@ -176,6 +157,27 @@ impl Questions<WideCode> for Wrong {
             answer.data &= u128::from(u64::MAX);
         }
         answer
+    }
+}
+
+impl Questions<WideCode> for Wrong {
+    fn wanted(&self, k: usize) -> Wanted {
+        let mut answer = wanted_in::<WideCode>(k);
+        if self.has(EightCheckBits) {
+            answer.check_bits = answer.check_bits.min(8);
+        }
+        answer
+    }
+
+    fn put_back(&self, image: &mut [u8], journal: &mut [u8], used: usize) -> PutBack {
+        if self.has(TenByteEntriesBack) {
+            return put_back_in::<Code>(image, journal, used);
+        }
+        put_back_in::<WideCode>(image, journal, used)
+    }
+
+    fn make(&self, k: usize, r: usize) -> Made<WideCode> {
+        make_in(k, r)
     }
 }
 

@@ -54,7 +54,7 @@ lay-out-requires c κs =
     let t = c .before .before in
     let s = limits t in
     let a = t .before .before .before .before .args in
-    (s .top, omega (arith, s .sized .few, length-take-le (a .k) (a .places .now) (s .sized .few)))
+    (s .top, omega (arith, s .top, s .sized .few, length-take-le (a .k) (a .places .now) (s .sized .few)))
 
 returns-2 : tie.Need-returns-2
 returns-2 c =

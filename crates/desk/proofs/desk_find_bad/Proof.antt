@@ -12,12 +12,15 @@ open-code-requires c κs = search needs
 find-bad-requires : tie.Need-find-bad-requires
 find-bad-requires c κs = search needs
 
+narrow-places-requires : tie.Need-narrow-places-requires
+narrow-places-requires c κs = search needs
+
 returns : tie.Need-returns
 returns c =
     let a = c .before .before .before .args in
-    ap badPlacesBy (c .before .find-bad .ensures
+    c .narrow-places .ensures ∙ ap badPlacesBy (c .before .find-bad .ensures
     ∙ ap (λ o. findOf o (wordWith (a .first-data) (a .first-check)) (wordWith (a .second-data) (a .second-check)))
     (c .before .before .open-code .ensures .0))
 
 pub desk-find-bad-spec : {M : Type 1} → statement M
-desk-find-bad-spec = tie.close (tie.spec open-code-requires find-bad-requires returns)
+desk-find-bad-spec = tie.close (tie.spec open-code-requires find-bad-requires narrow-places-requires returns)

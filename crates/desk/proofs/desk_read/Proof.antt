@@ -12,11 +12,14 @@ open-code-requires c κs = search needs
 read-requires : tie.Need-read-requires
 read-requires c κs = search needs
 
+narrow-requires : tie.Need-narrow-requires
+narrow-requires c κs = search needs
+
 returns : tie.Need-returns
 returns c =
     let a = c .before .before .before .args in
-    ap narrowed (c .before .read .ensures
+    c .narrow .ensures ∙ ap narrowed (c .before .read .ensures
     ∙ ap (λ o. readingOf o (wordWith (a .«data») (a .check))) (c .before .before .open-code .ensures .0))
 
 pub desk-read-spec : {M : Type 1} → statement M
-desk-read-spec = tie.close (tie.spec open-code-requires read-requires returns)
+desk-read-spec = tie.close (tie.spec open-code-requires read-requires narrow-requires returns)

@@ -19,12 +19,15 @@ recover-requires c κs =
     let opened = c .open-code .ensures in
     (opened .1 .0, subst SoundOpened (sym (opened .0)) (sound-code (a .code) h))
 
+narrow-recovery-requires : tie.Need-narrow-recovery-requires
+narrow-recovery-requires c κs = search needs
+
 returns : tie.Need-returns
 returns c =
     let x = c .before in
     let a = x .before .before .before .args in
-    ap recoveredBy (x .recover .ensures
+    c .narrow-recovery .ensures ∙ ap recoveredBy (x .recover .ensures
     ∙ ap (λ o. recoverOf o (wordWith (a .«data») (a .check)) (a .bad .now)) (x .before .open-code .ensures .0))
 
 pub desk-recover-spec : {M : Type 1} → statement M
-desk-recover-spec = tie.close (tie.spec open-code-requires recover-requires returns)
+desk-recover-spec = tie.close (tie.spec open-code-requires recover-requires narrow-recovery-requires returns)

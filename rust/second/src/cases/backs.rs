@@ -2,7 +2,7 @@
 
 use super::images::record_of;
 use super::{CasesOf, TurnsCase, HUGE};
-use crate::code::Coded;
+use crate::code::Hsiao;
 use crate::pass::{pass, Pass};
 
 /// Where an entry has its record number and its bytes as read; those as left are behind them.
@@ -24,7 +24,7 @@ impl BackCase {
     }
 }
 
-impl<C: Coded> CasesOf<C> {
+impl<C: Hsiao> CasesOf<C> {
     /// What passes or single steps have left, with room behind the entries in use; then mostly something is damaged.
     pub fn back(&mut self) -> BackCase {
         let mut case = if self.random.once_in(4) { self.left_by_passes() } else { self.left_by_steps() };

@@ -2,7 +2,7 @@
 
 use super::words::{flip_place, lowest};
 use super::{CasesOf, WordCase, HUGE};
-use crate::code::{Code, Coded, Data};
+use crate::code::{Code, Coded, Data, Hsiao};
 
 /// The most places of a code that is asked with every set of bad places.
 const SMALL: usize = 20;
@@ -40,22 +40,7 @@ fn word_case<C: Coded>(code: &C, (data, check): (u128, u16)) -> WordCase<C> {
     WordCase { code: *code, data: C::Data::of(data), check }
 }
 
-impl<C: Coded> CasesOf<C> {
-    /// A clean word under a sound code, with its bad places at random and `beside` flips at other places.
-    fn disturbed(&mut self, code: &C, bad: &[usize], beside: usize) -> (u128, u16) {
-        let mut word = self.clean_bits(code);
-        for &place in bad {
-            if self.random.once_in(2) {
-                flip_place(code.k(), &mut word, place);
-            }
-        }
-        let mut others: Vec<usize> = (0..code.k() + code.r()).filter(|place| !bad.contains(place)).collect();
-        let beside = beside.min(others.len());
-        self.random.shuffle(&mut others, beside);
-        others[..beside].iter().for_each(|&place| flip_place(code.k(), &mut word, place));
-        word
-    }
-
+impl<C: Hsiao> CasesOf<C> {
     /// For every (k, r) with at most 20 places, every set of up to three bad places in some order: words that differ in bad
     /// places alone, in one place beside them, in two, and any.
     pub fn small_bad(&mut self) -> Vec<BadCase<C>> {
@@ -76,6 +61,23 @@ impl<C: Coded> CasesOf<C> {
             }
         }
         cases
+    }
+}
+
+impl<C: Coded> CasesOf<C> {
+    /// A clean word under a sound code, with its bad places at random and `beside` flips at other places.
+    fn disturbed(&mut self, code: &C, bad: &[usize], beside: usize) -> (u128, u16) {
+        let mut word = self.clean_bits(code);
+        for &place in bad {
+            if self.random.once_in(2) {
+                flip_place(code.k(), &mut word, place);
+            }
+        }
+        let mut others: Vec<usize> = (0..code.k() + code.r()).filter(|place| !bad.contains(place)).collect();
+        let beside = beside.min(others.len());
+        self.random.shuffle(&mut others, beside);
+        others[..beside].iter().for_each(|&place| flip_place(code.k(), &mut word, place));
+        word
     }
 
     /// A word with bad places of every kind: few or many, again, at n or above; the word near a code word or not, or stray.

@@ -1,7 +1,7 @@
 //! Codes: sound ones of every shape, and damaged ones.
 
 use super::{CasesOf, HUGE};
-use crate::code::{Code, Coded};
+use crate::code::{Code, Coded, Hsiao};
 
 /// Shapes that are asked more often: the fullest of each r, the sample's, the largest, the smallest.
 const FAVOURED: [(usize, usize); 10] =
@@ -32,16 +32,7 @@ pub fn asked_shapes_in<C: Coded>() -> impl Iterator<Item = (usize, usize)> {
     (0..=C::PLACES + 6).chain(HUGE).flat_map(|k| (0..=20).chain(HUGE).map(move |r| (k, r)))
 }
 
-impl<C: Coded> CasesOf<C> {
-    /// A code, sound or damaged.
-    pub fn code(&mut self) -> C {
-        if self.random.once_in(2) {
-            self.sound_code()
-        } else {
-            self.damaged_code()
-        }
-    }
-
+impl<C: Hsiao> CasesOf<C> {
     /// A sound code: each shape in turn, with favoured ones between.
     pub fn sound_code(&mut self) -> C {
         let (k, r) = if self.made % 3 == 2 {

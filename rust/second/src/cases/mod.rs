@@ -7,6 +7,7 @@ mod bad;
 mod codes;
 mod images;
 mod orders;
+mod rows;
 mod stations;
 mod tens;
 mod words;
@@ -50,6 +51,15 @@ pub struct CasesOf<C: Coded> {
 }
 
 impl<C: Coded> CasesOf<C> {
+    /// A code, sound or damaged.
+    pub fn code(&mut self) -> C {
+        if self.random.once_in(2) {
+            C::sound(self)
+        } else {
+            C::damaged(self)
+        }
+    }
+
     pub fn new(seed: u64) -> CasesOf<C> {
         let columns: Vec<Vec<u16>> = (0..=16).map(codes::allowed_columns).collect();
         let mut light = columns.clone();
@@ -68,7 +78,7 @@ impl<C: Coded> CasesOf<C> {
                 code
             }
             _ => {
-                let code = if self.random.once_in(8) { self.damaged_code() } else { self.sound_code() };
+                let code = if self.random.once_in(8) { C::damaged(self) } else { C::sound(self) };
                 self.serving = Some((code, words - 1));
                 code
             }

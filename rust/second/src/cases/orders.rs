@@ -2,7 +2,7 @@
 
 use super::images::record_of;
 use super::CasesOf;
-use crate::code::{Code, Coded};
+use crate::code::{Code, Hsiao};
 use crate::pass::stamp_of;
 
 /// Runs of one image apart from each other, a journal with so many entries in use and room for the entries of all runs,
@@ -28,7 +28,7 @@ pub struct OverlapCase<C = Code> {
     pub passes: Vec<(usize, usize, u32)>,
 }
 
-impl<C: Coded> CasesOf<C> {
+impl<C: Hsiao> CasesOf<C> {
     /// Two to five runs apart; now and then one is empty, and may then lie within another.
     pub fn orders(&mut self) -> OrdersCase<C> {
         let code = self.sound_code();

@@ -48,6 +48,12 @@ impl<C: Coded> CasesOf<C> {
         self.word_under(&code)
     }
 
+    /// A word under a sound code.
+    pub fn sound_word(&mut self) -> WordCase<C> {
+        let code = C::sound(self);
+        self.word_under(&code)
+    }
+
     /// Any data bits: a number, or two halves.
     pub fn draw_data(&mut self) -> u128 {
         let low = u128::from(self.random.draw());

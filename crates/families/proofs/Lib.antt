@@ -1,0 +1,3 @@
+pub mod ByRows
+pub mod Numbers
+pub mod Same

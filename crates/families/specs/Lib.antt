@@ -1,0 +1,2 @@
+pub mod AsRows
+pub mod ByRows
