@@ -9,12 +9,11 @@ mod desks;
 mod program;
 
 use desks::{Archive, Wrapper};
-use second::{
-    compare, compare_narrow, compare_rows, compare_wide, Amounts, Desk, Difference, Line, Questions, Second, WideCode,
-};
-use second::{reason_number, Code, OfCodes, RowCode, WideRowCode};
+use second::{compare, compare_narrow, compare_rows, compare_wide, Amounts, Desk, Difference, Line, Second};
+use second::{reason_number, RowCode, WideRowCode};
 use std::collections::BTreeMap;
 use std::process;
+use std::thread;
 use std::time::Instant;
 
 const USAGE: &str = "compare gate | mend  [--times N] [--seed S]";
@@ -68,7 +67,7 @@ enum Edition {
 
 impl Counts {
     /// Counts what the comparison of some desks gave, of which some questions may be left out.
-    fn compared(&mut self, edition: Edition, lines: Result<Vec<Line>, Box<Difference>>, wanted: impl Fn(&str) -> bool) {
+    fn compared(&mut self, edition: Edition, lines: Compared, wanted: impl Fn(&str) -> bool) {
         match lines {
             Ok(lines) => {
                 for line in lines.iter().filter(|line| wanted(line.question)) {
@@ -98,25 +97,58 @@ impl Counts {
     }
 }
 
-/// Every question of the archive, in both editions.
+/// What the comparison of some desks gave.
+type Compared = Result<Vec<Line>, Box<Difference>>;
+
+/// A part of the gate's comparison, that of the second program, the archive and the wrapper.
+struct Part {
+    name: &'static str,
+    edition: Edition,
+    compared: fn(&Amounts) -> Compared,
+}
+
+/// Every question of the archive, in both editions and families. They are compared at the same time.
+const PARTS: [Part; 5] = [
+    Part { name: "the ten-byte edition", edition: Edition::TenBytes, compared: ten_bytes },
+    Part { name: "the ten-byte edition, across", edition: Edition::TenBytes, compared: across },
+    Part { name: "the wide edition", edition: Edition::Wide, compared: wide },
+    Part { name: "codes with a set of rows", edition: Edition::TenBytes, compared: rows },
+    Part { name: "codes with a set of rows in the wide edition", edition: Edition::Wide, compared: wide_rows },
+];
+
+fn ten_bytes(amounts: &Amounts) -> Compared {
+    compare(&[&Second, &Archive, &Wrapper], amounts)
+}
+
+fn across(amounts: &Amounts) -> Compared {
+    compare_narrow(&[&Second, &Archive, &Wrapper], amounts)
+}
+
+fn wide(amounts: &Amounts) -> Compared {
+    compare_wide(&[&Second, &Archive, &Wrapper], amounts)
+}
+
+fn rows(amounts: &Amounts) -> Compared {
+    let desks: [&dyn Desk; 2] = [&Archive, &Wrapper];
+    compare_rows::<RowCode>(&[&Second, &Archive, &Wrapper], &[&Second, &desks[0], &desks[1]], amounts)
+}
+
+fn wide_rows(amounts: &Amounts) -> Compared {
+    compare_rows::<WideRowCode>(&[&Second, &Archive, &Wrapper], &[&Second, &Archive, &Wrapper], amounts)
+}
+
+/// All parts, a thread for each; then how often each refusal was met.
 fn gate(asked: &Asked, counts: &mut Counts) {
-    let desks: [&dyn Desk; 3] = [&Second, &Archive, &Wrapper];
-    let wide: [&dyn Questions<WideCode>; 3] = [&Second, &Archive, &Wrapper];
-    let of_codes: [&dyn OfCodes<Code>; 3] = [&Second, &desks[1], &desks[2]];
-    let of_wide: [&dyn OfCodes<WideCode>; 3] = [&Second, &Archive, &Wrapper];
-    let rows: [&dyn OfCodes<RowCode>; 3] = [&Second, &Archive, &Wrapper];
-    let wide_rows: [&dyn OfCodes<WideRowCode>; 3] = [&Second, &Archive, &Wrapper];
     for seed in asked.seed..asked.seed + asked.times {
-        println!("seed {}: second, archive, wrapper", seed);
-        let amounts = Amounts { seed, inputs: 0, ..Amounts::GATE };
-        counts.compared(Edition::TenBytes, compare(&desks, &amounts), |question| question != "mend");
-        counts.compared(Edition::TenBytes, compare_narrow(&desks, &amounts), |_| true);
-        println!("seed {}, the wide edition: second, archive, wrapper", seed);
-        counts.compared(Edition::Wide, compare_wide(&wide, &amounts), |_| true);
-        println!("seed {}, codes with a set of rows: second, archive, wrapper", seed);
-        counts.compared(Edition::TenBytes, compare_rows(&rows, &of_codes, &amounts), |_| true);
-        println!("seed {}, codes with a set of rows in the wide edition: second, archive, wrapper", seed);
-        counts.compared(Edition::Wide, compare_rows(&wide_rows, &of_wide, &amounts), |_| true);
+        let amounts = &Amounts { seed, inputs: 0, ..Amounts::GATE };
+        thread::scope(|scope| {
+            let running = PARTS.map(|part| (part.name, part.edition, scope.spawn(move || (part.compared)(amounts))));
+            for (name, edition, compared) in running {
+                println!("seed {}, {}: second, archive, wrapper", seed, name);
+                let lines = compared.join().unwrap_or_else(|panic| std::panic::resume_unwind(panic));
+                counts.compared(edition, lines, |question| question != "mend");
+            }
+        });
     }
     let mut met_in = |number: usize, edition: Edition, name: &str| {
         let met = counts.met.get(&(edition, number)).copied().unwrap_or(0);
