@@ -57,7 +57,7 @@ pub extern "C" fn desk_check_bits(k: usize) -> CheckBits
 pub extern "C" fn desk_judge(code: Code) -> Refusal
     ensures { λ a. ⌜ a ≡ judgementOf code ⌝ }
 {
-    code::judgement(code::open_code(code))
+    code_desk::judge(code)
 }
 
 // Row balance: all 16 rows.
@@ -65,7 +65,7 @@ pub extern "C" fn desk_judge(code: Code) -> Refusal
 pub extern "C" fn desk_row_balance(code: Code) -> RowBalance
     ensures { λ a. ⌜ a ≡ rowsOf code ⌝ }
 {
-    balance::row_balance(code::open_code(code))
+    code_desk::row_balance(code)
 }
 
 // Writing: the check bits.
@@ -73,7 +73,7 @@ pub extern "C" fn desk_row_balance(code: Code) -> RowBalance
 pub extern "C" fn desk_write(code: Code, data: u64) -> CheckWord
     ensures { λ a. ⌜ a ≡ writtenOf code «data» ⌝ }
 {
-    writing::write(code::open_code(code), data, 0)
+    code_desk::write(code, data)
 }
 
 // Reading: verdict, place, the word handed back, and the syndrome.
@@ -113,7 +113,7 @@ pub extern "C" fn desk_read(code: Code, data: u64, check: u16) -> ReadWord
         high: 0,
         check,
     };
-    narrow(reading::read(code::open_code(code), word))
+    narrow(code_desk::read(code, word))
 }
 
 // Explanations: the list's length where it is done; the list itself stands in the lent bytes.
@@ -133,7 +133,7 @@ pub extern "C" fn desk_explain(
         high: 0,
         check,
     };
-    explain::explain(code::open_code(code), word, limit, list)
+    code_desk::explain(code, word, limit, list)
 }
 
 // The card check: the first weak card and its smallest mask, where the number is 9. Cards begin again at the first check place.
@@ -141,7 +141,7 @@ pub extern "C" fn desk_explain(
 pub extern "C" fn desk_cards(code: Code, b: usize) -> CardCheck
     ensures { λ a. ⌜ a ≡ cardsOf code b ⌝ }
 {
-    card_check::card_check(code::open_code(code), b)
+    code_desk::cards(code, b)
 }
 
 // A pass with a stamp over the records of an image from `start` up to `end`, with `used` entries of the journal in use: the count in use
@@ -162,16 +162,7 @@ pub extern "C" fn desk_pass(
     ensures { λ _. ⌜ now (journal .exit)
         ≡ passedOf code (passOver start end stamp) (stateOf (now (image .entry)) (now (journal .entry)) used) .journal ⌝ }
 {
-    pass::pass(
-        code::open_code(code),
-        DATA,
-        image,
-        start,
-        end,
-        journal,
-        used,
-        stamp,
-    )
+    code_desk::pass(code, image, start, end, journal, used, stamp)
 }
 
 // The put-back: from the last of the `used` entries of a journal to the first, a record that holds an entry's bytes as left gets its bytes as
@@ -281,7 +272,7 @@ pub extern "C" fn desk_recover(code: Code, data: u64, check: u16, bad: &[usize])
         high: 0,
         check,
     };
-    narrow_recovery(recover::recover(code::open_code(code), word, bad))
+    narrow_recovery(code_desk::recover(code, word, bad))
 }
 
 // The finder: the places where two reads agree, as ones in data and check bits.
@@ -326,5 +317,5 @@ pub extern "C" fn desk_find_bad(
         high: 0,
         check: second_check,
     };
-    narrow_places(finder::find_bad(code::open_code(code), first, second))
+    narrow_places(code_desk::find_bad(code, first, second))
 }

@@ -41,7 +41,7 @@ pub extern "C" fn desk_wide_make(k: usize, r: usize) -> WideMade
 pub extern "C" fn desk_wide_judge(code: WideCode) -> Refusal
     ensures { λ a. ⌜ a ≡ wideJudgementOf code ⌝ }
 {
-    code::judgement(code::open_wide(code))
+    code_desk::wide::judge(code)
 }
 
 // Row balance.
@@ -49,7 +49,7 @@ pub extern "C" fn desk_wide_judge(code: WideCode) -> Refusal
 pub extern "C" fn desk_wide_row_balance(code: WideCode) -> RowBalance
     ensures { λ a. ⌜ a ≡ wideRowsOf code ⌝ }
 {
-    balance::row_balance(code::open_wide(code))
+    code_desk::wide::row_balance(code)
 }
 
 // Writing: the check bits of data in two halves.
@@ -57,7 +57,7 @@ pub extern "C" fn desk_wide_row_balance(code: WideCode) -> RowBalance
 pub extern "C" fn desk_wide_write(code: WideCode, low: u64, high: u64) -> CheckWord
     ensures { λ a. ⌜ a ≡ wideWrittenOf code low high ⌝ }
 {
-    writing::write(code::open_wide(code), low, high)
+    code_desk::wide::write(code, low, high)
 }
 
 // Reading: verdict, place, syndrome and the word handed back.
@@ -66,7 +66,7 @@ pub extern "C" fn desk_wide_read(code: WideCode, low: u64, high: u64, check: u16
     ensures { λ a. ⌜ a ≡ wideReadOf code low high check ⌝ }
 {
     let word = Word { low, high, check };
-    reading::read(code::open_wide(code), word)
+    code_desk::wide::read(code, word)
 }
 
 // Explanations: a list of at most 72 entries.
@@ -83,7 +83,7 @@ pub extern "C" fn desk_wide_explain(
     ensures { λ _. ⌜ now (list .exit) ≡ wideExplainedOf code (wideWord low high check) limit (now (list .entry)) .list ⌝ }
 {
     let word = Word { low, high, check };
-    explain::explain(code::open_wide(code), word, limit, list)
+    code_desk::wide::explain(code, word, limit, list)
 }
 
 // The card check.
@@ -91,7 +91,7 @@ pub extern "C" fn desk_wide_explain(
 pub extern "C" fn desk_wide_cards(code: WideCode, b: usize) -> CardCheck
     ensures { λ a. ⌜ a ≡ wideCardsOf code b ⌝ }
 {
-    card_check::card_check(code::open_wide(code), b)
+    code_desk::wide::cards(code, b)
 }
 
 // The pass over records of 18 bytes, with entries of 46.
@@ -111,8 +111,7 @@ pub extern "C" fn desk_wide_pass(
     ensures { λ _. ⌜ now (journal .exit)
         ≡ widePassedOf code (passOver start end stamp) (stateOf (now (image .entry)) (now (journal .entry)) used) .journal ⌝ }
 {
-    let opened = code::open_wide(code);
-    pass::pass(opened, WIDE_DATA, image, start, end, journal, used, stamp)
+    code_desk::wide::pass(code, image, start, end, journal, used, stamp)
 }
 
 // The put-back of an image with records of 18 bytes, from a journal with entries of 46.
@@ -136,7 +135,7 @@ pub extern "C" fn desk_wide_recover(
     ensures { λ a. ⌜ a ≡ wideRecoveredOf code (wideWord low high check) (now (bad .entry)) ⌝ }
 {
     let word = Word { low, high, check };
-    recover::recover(code::open_wide(code), word, bad)
+    code_desk::wide::recover(code, word, bad)
 }
 
 // The finder: from two reads after a pattern and its complement, the bad places as ones.
@@ -144,5 +143,5 @@ pub extern "C" fn desk_wide_recover(
 pub extern "C" fn desk_wide_find_bad(code: WideCode, first: Word, second: Word) -> Found
     ensures { λ a. ⌜ a ≡ wideBadPlacesOf code first second ⌝ }
 {
-    finder::find_bad(code::open_wide(code), first, second)
+    code_desk::wide::find_bad(code, first, second)
 }
