@@ -44,10 +44,14 @@ impl Accepted {
         self.feeders[j].iter().filter(|&&place| word[place]).count() % 2 == 1
     }
 
+    /// Whether the check places of a row that are on are an odd number.
+    fn checks_odd(&self, word: &[bool], row: usize) -> bool {
+        self.checks[row].iter().filter(|&&place| word[place]).count() % 2 == 1
+    }
+
     /// Whether the places of a row that are on, data and check bits, are an odd number.
     fn is_odd(&self, word: &[bool], row: usize) -> bool {
-        let checks = self.checks[row].iter().filter(|&&place| word[place]).count();
-        self.written_bit(word, row) != (checks % 2 == 1)
+        self.written_bit(word, row) != self.checks_odd(word, row)
     }
 
     /// Does each check bit stand in a row of its own, and in no other?
@@ -63,8 +67,10 @@ impl Accepted {
             }
             return;
         }
+        // The data places stay, so they are counted once.
+        let written: Vec<bool> = (0..self.r).map(|row| self.written_bit(word, row)).collect();
         word[self.k..].fill(false);
-        while !self.is_clean(word) {
+        while (0..self.r).any(|row| written[row] != self.checks_odd(word, row)) {
             // The next check bits, counting up; behind the last come the first again.
             for place in self.k..self.n() {
                 word[place] = !word[place];
