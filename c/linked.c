@@ -133,6 +133,8 @@ static void longest_image(void) {
     static uint8_t image[DESK_IMAGE + DESK_RECORD];
     DeskPassAnswer a = desk_pass(sample(), image, DESK_IMAGE, 0, DESK_IMAGE / DESK_RECORD, NULL, 0, 0, 0);
     expect("desk_pass: the longest image", a.number == DESK_DONE && same_tally(a.tally, 6553, 0, 0, 0, 0, 0));
+    a = desk_quick_pass(sample(), image, DESK_IMAGE, 0, DESK_IMAGE / DESK_RECORD, NULL, 0, 0, 0);
+    expect("desk_quick_pass: the longest image", a.number == DESK_DONE && same_tally(a.tally, 6553, 0, 0, 0, 0, 0));
     a = desk_pass(sample(), image, DESK_IMAGE + DESK_RECORD, 0, 1, NULL, 0, 0, 0);
     expect("desk_pass: a record more is refused", a.number == DESK_IMAGE_LENGTH);
 }
@@ -847,6 +849,69 @@ static void same_check_bits(void) {
     expect("desk_rows_write: figures 1 and 2 write the same check bits for all 256 data words", same);
 }
 
+/* ---- the quick engine: as the plain one, between guards, in every family and edition */
+
+enum { QUICK_GUARD = 64, QUICK_RECORDS = 300 };
+
+/* What is lent to a pass: an image and a journal, with guards before, between and behind them. */
+typedef struct Lent {
+    uint8_t bytes[3 * QUICK_GUARD + QUICK_RECORDS * (DESK_WIDE_RECORD + DESK_WIDE_ENTRY)];
+    uint8_t *image, *journal;
+    size_t image_length, journal_length;
+} Lent;
+
+/* Random records of 8 data bits and 5 check bits, some with a stray bit more; the same for the same `size`. */
+static void lend(Lent *lent, size_t size, size_t entry) {
+    memset(lent->bytes, 0xEE, sizeof lent->bytes);
+    lent->image_length = QUICK_RECORDS * size;
+    lent->journal_length = QUICK_RECORDS * entry;
+    lent->image = lent->bytes + QUICK_GUARD;
+    lent->journal = lent->image + lent->image_length + QUICK_GUARD;
+    memset(lent->image, 0, lent->image_length);
+    uint32_t number = 1;
+    for (size_t at = 0; at < QUICK_RECORDS; at++) {
+        number = number * 1664525 + 1013904223;
+        lent->image[at * size] = (uint8_t)(number >> 24);
+        lent->image[at * size + 1] = at % 16 == 15;
+        lent->image[at * size + size - 2] = number >> 16 & 31;
+    }
+}
+
+/* Both passes over the same run, of the same image: the same answer, and the same bytes, guards too. */
+#define QUICK_AS_PLAIN(plain, quick, code, size, entry, start, end, room)                                               \
+    do {                                                                                                               \
+        static Lent one, other;                                                                                        \
+        lend(&one, size, entry);                                                                                       \
+        lend(&other, size, entry);                                                                                     \
+        DeskPassAnswer a = plain(code, one.image, one.image_length, start, end, one.journal, room, 0, 7);              \
+        DeskPassAnswer b = quick(code, other.image, other.image_length, start, end, other.journal, room, 0, 7);        \
+        DeskTally t = a.tally;                                                                                         \
+        expect(#quick ": run " #start " to " #end ", answers as " #plain,                                              \
+               a.number == b.number && a.told == b.told && a.used == b.used &&                                         \
+                   same_tally(b.tally, t.clean, t.data, t.check, t.even, t.odd, t.stray));                             \
+        expect(#quick ": and leaves every byte as " #plain, memcmp(one.bytes, other.bytes, sizeof one.bytes) == 0);    \
+        expect(#quick ": which is done or wants room", a.number == (a.told == 0 ? DESK_DONE : DESK_JOURNAL_ROOM));     \
+    } while (0)
+
+/* A long run, a short one, and one for whose entries there is no room. */
+#define QUICK_RUNS(plain, quick, code, size, entry)                                                                    \
+    do {                                                                                                               \
+        QUICK_AS_PLAIN(plain, quick, code, size, entry, 0, QUICK_RECORDS, QUICK_RECORDS * (entry));                    \
+        QUICK_AS_PLAIN(plain, quick, code, size, entry, 14, 17, 3 * (entry));                                          \
+        QUICK_AS_PLAIN(plain, quick, code, size, entry, 1, 299, 5 * (entry));                                          \
+    } while (0)
+
+static void quick_passes(void) {
+    static const uint16_t columns[] = {28, 26, 25, 22, 21, 19, 14, 13};
+    DeskWideCode wide = {{0}, 8, 5};
+    memcpy(wide.columns, columns, sizeof columns);
+    QUICK_RUNS(desk_pass, desk_quick_pass, sample(), DESK_RECORD, DESK_ENTRY);
+    QUICK_RUNS(desk_wide_pass, desk_wide_quick_pass, wide, DESK_WIDE_RECORD, DESK_WIDE_ENTRY);
+    QUICK_RUNS(desk_rows_pass, desk_rows_quick_pass, rows_of_figure_3(), DESK_RECORD, DESK_ENTRY);
+    QUICK_RUNS(desk_wide_rows_pass, desk_wide_rows_quick_pass, wide_rows_of_figure_3(), DESK_WIDE_RECORD,
+               DESK_WIDE_ENTRY);
+}
+
 int main(void) {
     version();
     code_fields();
@@ -877,5 +942,6 @@ int main(void) {
     row_fields();
     wide_row_fields();
     same_check_bits();
+    quick_passes();
     return finish();
 }

@@ -33,6 +33,8 @@ void desk_explain(void *answer, Code code, uint64_t data, uint16_t check, size_t
 void desk_cards(void *answer, Code code, size_t b);
 void desk_pass(void *answer, Code code, uint8_t *image, size_t image_length, size_t start, size_t end, uint8_t *journal,
                size_t journal_length, size_t used, uint32_t stamp);
+void desk_quick_pass(void *answer, Code code, uint8_t *image, size_t image_length, size_t start, size_t end,
+                     uint8_t *journal, size_t journal_length, size_t used, uint32_t stamp);
 void desk_put_back(void *answer, uint8_t *image, size_t image_length, const uint8_t *journal, size_t journal_length,
                    size_t used);
 void desk_sheet_ceiling(void *answer, double hours, size_t devices, size_t words, size_t mended, double high);
@@ -52,6 +54,8 @@ void desk_wide_explain(void *answer, WideCode code, uint64_t low, uint64_t high,
 void desk_wide_cards(void *answer, WideCode code, size_t b);
 void desk_wide_pass(void *answer, WideCode code, uint8_t *image, size_t image_length, size_t start, size_t end,
                     uint8_t *journal, size_t journal_length, size_t used, uint32_t stamp);
+void desk_wide_quick_pass(void *answer, WideCode code, uint8_t *image, size_t image_length, size_t start, size_t end,
+                          uint8_t *journal, size_t journal_length, size_t used, uint32_t stamp);
 void desk_wide_put_back(void *answer, uint8_t *image, size_t image_length, const uint8_t *journal,
                         size_t journal_length, size_t used);
 void desk_wide_make(void *answer, size_t k, size_t r);
@@ -75,6 +79,12 @@ static void pass_to(void *answer) {
     uint8_t image[20] = {0xA4, 0, 0, 0, 0, 0, 0, 0, 27, 0, 0xA6, 0, 0, 0, 0, 0, 0, 0, 27, 0};
     uint8_t journal[3 * 30] = {0};
     desk_pass(answer, sample, image, sizeof image, 0, 2, journal, sizeof journal, 1, 0x04030201);
+}
+
+static void quick_pass_to(void *answer) {
+    uint8_t image[100 * 10] = {0xA4, 0, 0, 0, 0, 0, 0, 0, 27, 0, 0xA6, 0, 0, 0, 0, 0, 0, 0, 27, 0};
+    uint8_t journal[3 * 30] = {0};
+    desk_quick_pass(answer, sample, image, sizeof image, 0, 100, journal, sizeof journal, 1, 0x04030201);
 }
 
 /* One entry of two is put back, and the other does not match. */
@@ -130,6 +140,12 @@ static void wide_pass_to(void *answer) {
     desk_wide_pass(answer, wide, image, sizeof image, 0, 2, journal, sizeof journal, 1, 0x04030201);
 }
 
+static void wide_quick_pass_to(void *answer) {
+    uint8_t image[100 * 18] = {[0] = 0xA4, [16] = 27, [18] = 0xA6, [34] = 27};
+    uint8_t journal[3 * 46] = {0};
+    desk_wide_quick_pass(answer, wide, image, sizeof image, 0, 100, journal, sizeof journal, 1, 0x04030201);
+}
+
 static void wide_back_to(void *answer) {
     uint8_t image[18] = {0}, journal[2 * 46] = {0};
     desk_wide_put_back(answer, image, sizeof image, journal, sizeof journal, 2);
@@ -173,6 +189,7 @@ int main(void) {
     expect("desk_explain writes all 24 bytes of its answer, and no other", writes_only(explain_to, 0, 24, 24));
     expect("desk_cards writes all 32 bytes of its answer, and no other", writes_only(cards_to, 0, 32, 32));
     expect("desk_pass writes 36 bytes of its 40, and no other", writes_only(pass_to, 0, 36, 40));
+    expect("desk_quick_pass writes 36 bytes of its 40, and no other", writes_only(quick_pass_to, 0, 36, 40));
     expect("desk_put_back writes all 24 bytes of its answer, and no other", writes_only(put_back_to, 0, 24, 24));
     expect("desk_sheet_ceiling writes its fields, and no other", writes_sheet(ceiling_to));
     expect("desk_sheet_band writes its fields, and no other", writes_sheet(band_to));
@@ -193,6 +210,7 @@ int main(void) {
            writes_only(wide_explain_to, 0, 24, 24));
     expect("desk_wide_cards writes all 32 bytes of its answer, and no other", writes_only(wide_cards_to, 0, 32, 32));
     expect("desk_wide_pass writes 36 bytes of its 40, and no other", writes_only(wide_pass_to, 0, 36, 40));
+    expect("desk_wide_quick_pass writes 36 bytes of its 40, and no other", writes_only(wide_quick_pass_to, 0, 36, 40));
     expect("desk_wide_put_back writes all 24 bytes of its answer, and no other", writes_only(wide_back_to, 0, 24, 24));
     expect("desk_wide_make writes all 280 bytes of its answer, and no other", writes_only(wide_make_to, 0, 280, 280));
     expect("desk_wide_make writes all of them where it refuses too", writes_only(wide_refused_make_to, 0, 280, 280));

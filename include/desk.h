@@ -389,6 +389,10 @@ DeskCardCheck desk_cards(DeskCode code, size_t b);
 DeskPassAnswer desk_pass(DeskCode code, uint8_t *image, size_t image_length, size_t start, size_t end, uint8_t *journal,
                          size_t journal_length, size_t used, uint32_t stamp);
 
+/* The same by the quick engine: the same answer, image and journal, on every code, image and journal. */
+DeskPassAnswer desk_quick_pass(DeskCode code, uint8_t *image, size_t image_length, size_t start, size_t end,
+                               uint8_t *journal, size_t journal_length, size_t used, uint32_t stamp);
+
 /*
  * Puts an image back as it was read: from the last of the `used` entries that the journal has in use to the first, a record
  * that holds an entry's bytes as left gets its bytes as read; refuses with 12, 17, then 18 at the first entry that does not
@@ -470,6 +474,8 @@ DeskListing desk_wide_explain(DeskWideCode code, uint64_t low, uint64_t high, ui
 DeskCardCheck desk_wide_cards(DeskWideCode code, size_t b);
 DeskPassAnswer desk_wide_pass(DeskWideCode code, uint8_t *image, size_t image_length, size_t start, size_t end,
                               uint8_t *journal, size_t journal_length, size_t used, uint32_t stamp);
+DeskPassAnswer desk_wide_quick_pass(DeskWideCode code, uint8_t *image, size_t image_length, size_t start, size_t end,
+                                    uint8_t *journal, size_t journal_length, size_t used, uint32_t stamp);
 DeskPutBack desk_wide_put_back(uint8_t *image, size_t image_length, const uint8_t *journal, size_t journal_length,
                                size_t used);
 DeskWideMade desk_wide_make(size_t k, size_t r);
@@ -494,7 +500,8 @@ DeskListing desk_rows_explain(DeskRowCode code, uint64_t data, uint16_t check, s
 DeskCardCheck desk_rows_cards(DeskRowCode code, size_t b);
 DeskPassAnswer desk_rows_pass(DeskRowCode code, uint8_t *image, size_t image_length, size_t start, size_t end,
                               uint8_t *journal, size_t journal_length, size_t used, uint32_t stamp);
-
+DeskPassAnswer desk_rows_quick_pass(DeskRowCode code, uint8_t *image, size_t image_length, size_t start, size_t end,
+                                    uint8_t *journal, size_t journal_length, size_t used, uint32_t stamp);
 DeskRecovered desk_rows_recover(DeskRowCode code, uint64_t data, uint16_t check, const size_t *bad, size_t count);
 DeskBadPlaces desk_rows_find_bad(DeskRowCode code, uint64_t first_data, uint16_t first_check, uint64_t second_data,
                                  uint16_t second_check);
@@ -508,6 +515,9 @@ DeskListing desk_wide_rows_explain(DeskWideRowCode code, uint64_t low, uint64_t 
 DeskCardCheck desk_wide_rows_cards(DeskWideRowCode code, size_t b);
 DeskPassAnswer desk_wide_rows_pass(DeskWideRowCode code, uint8_t *image, size_t image_length, size_t start, size_t end,
                                    uint8_t *journal, size_t journal_length, size_t used, uint32_t stamp);
+DeskPassAnswer desk_wide_rows_quick_pass(DeskWideRowCode code, uint8_t *image, size_t image_length, size_t start,
+                                         size_t end, uint8_t *journal, size_t journal_length, size_t used,
+                                         uint32_t stamp);
 DeskWideRecovered desk_wide_rows_recover(DeskWideRowCode code, uint64_t low, uint64_t high, uint16_t check,
                                          const size_t *bad, size_t count);
 DeskWideBadPlaces desk_wide_rows_find_bad(DeskWideRowCode code, DeskWideWord first, DeskWideWord second);

@@ -8,3 +8,4 @@ pub mod Bad
 pub mod Demands
 pub mod Editions
 pub mod Rows
+pub mod Quick

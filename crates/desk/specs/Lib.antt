@@ -1,3 +1,4 @@
 pub mod Answers
 pub mod Wide
 pub mod Rows
+pub mod Quick

@@ -34,6 +34,9 @@ pub mod wide;
 pub mod row_sets;
 pub mod wide_row_sets;
 
+// The pass by the quick engine.
+pub mod quick_passes;
+
 // The version of what a caller links: raised by each landing that changes a struct, a size or a meaning.
 const VERSION: usize = 5;
 

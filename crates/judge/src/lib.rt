@@ -55,7 +55,7 @@ fn judge_columns(columns: &[u16], r: usize) -> Judged
 }
 
 // The first place from k on that is not 0 is left over.
-fn judge_rest(places: &[u16], k: usize) -> Judged
+pub fn judge_rest(places: &[u16], k: usize) -> Judged
     ensures { λ a. ⌜ a ≡ judgeRest (now (places .entry)) k ⌝ }
 {
     let mut i = k;

@@ -84,7 +84,7 @@ wide-told cs r = record {
   apart = λ f narrow. let n = narrow (firstIn (Wide r) cs) (f .inside) in omega (arith, f .wide);
 }
 
-set-told : (r rows : ℕ) → Tells (noSet r rows) (NoSetOfRows r rows) (SetOfRows r rows)
+pub set-told : (r rows : ℕ) → Tells (noSet r rows) (NoSetOfRows r rows) (SetOfRows r rows)
 set-told r rows = record {
   yes = either (eqb rows 0) (leb (2 ^ r) rows) (rows ≡ 0) (2 ^ r ≤ rows) (eqb-true rows 0) (leb-true (2 ^ r) rows);
   no = λ e.
@@ -143,7 +143,7 @@ upper-fault checks e up =
     let h = up p (s .0) in
     omega (arith, leb-true (2 ^ p) (offDiagonal checks p) (s .1))
 
-corner-told : (checks : List ℕ) → Tells (notTriangular checks) (¬ (Triangular checks)) (Triangular checks)
+pub corner-told : (checks : List ℕ) → Tells (notTriangular checks) (¬ (Triangular checks)) (Triangular checks)
 corner-told checks = record {
   yes = go (someIn NotLower checks) (someIn NotUpper checks) refl refl;
   no = come (someIn NotLower checks) (someIn NotUpper checks) refl refl;

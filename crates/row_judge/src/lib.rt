@@ -19,7 +19,7 @@ pub enum JudgedRows {
 }
 
 // Check columns with a fault at either corner.
-fn not_triangular(checks: &[u16]) -> bool
+pub fn not_triangular(checks: &[u16]) -> bool
     requires { ⌜ length (now checks) ≤ 16 ⌝ }
     ensures { λ b. ⌜ b ≡ notTriangular (now (checks .entry)) ⌝ }
 {
@@ -30,7 +30,7 @@ fn not_triangular(checks: &[u16]) -> bool
 }
 
 // A set of rows that is empty, or names a row at r or above.
-fn no_set(rows: u16, r: usize) -> bool
+pub fn no_set(rows: u16, r: usize) -> bool
     requires { ⌜ r ≤ 16 ⌝ }
     ensures { λ b. ⌜ b ≡ noSet r rows ⌝ }
 {

@@ -66,7 +66,7 @@ fn open_in(places: &[u16], n: usize, r: usize, rows: u16) -> Opened
     requires { ⌜ (16 ≤ length (now places)) × (length (now places) ≤ 144) ⌝ }
     ensures { λ o. ⌜ o ≡ openedRowsIn (length (now (places .entry)) - 16) (now (places .entry)) n r rows ⌝ }
 {
-    let verdict = row_judge::judge_in(places, n, r, rows);
+    let verdict = quick_judge::judge_rows_in(places, n, r, rows);
     let JudgedRows::Accepted = verdict else {
         return code::refuse(standing_of(verdict));
     };

@@ -9,7 +9,8 @@ use lib.Seq.{take-at, drop-at, take-all, take-add, drop-cons, drop-drop, length-
 use Rattle.record.specs.Bytes.{numberOf, bytesOf, byteSpan, AllBytes}
 use Rattle.record.specs.Layout.{recordSize, stampSize, numberSize, syndromeSize, headSize, entrySize, Entry, headBytes, entryBytes, entryIn, inBytes}
 use Rattle.record.proofs.Over.{part-length}
-use Rattle.runs.proofs.Numbers.{bytes-take, bytes-part, number-bytes, bytes-number}
+use Rattle.record.proofs.Bytes.{bytes-number}
+use Rattle.runs.proofs.Numbers.{bytes-take, bytes-part, number-bytes}
 
 pub length-head : (s n v p y : ℕ) → length (headBytes s n v p y) ≡ headSize
 unfolding headBytes bytesOf

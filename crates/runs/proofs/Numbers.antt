@@ -8,7 +8,7 @@ use lib.ListN.{length, take, drop, length-drop, take-append-drop}
 use lib.Pow.{pow-add}
 use lib.Seq.{take-all, take-at, drop-at, length-take-le}
 use Rattle.record.specs.Bytes.{numberOf, bytesOf, byteSpan, AllBytes}
-use Rattle.record.proofs.Bytes.{length-bytesOf, bytes-drop}
+use Rattle.record.proofs.Bytes.{length-bytesOf, bytes-drop, bytes-number}
 use Rattle.record.proofs.Over.{part-length}
 
 -- ---- parts of bytes are bytes
@@ -35,18 +35,6 @@ pub number-least : (n v : ℕ) → numberOf (bytesOf n v) ≤ v
 unfolding numberOf bytesOf
 number-least zero v = omega arith
 number-least (suc n) v = omega (arith, number-least n (v / 256))
-
-pub bytes-number : (n : ℕ) (l : List ℕ) → AllBytes l → length l ≡ n → bytesOf n (numberOf l) ≡ l
-unfolding numberOf bytesOf
-bytes-number n l h e = rw (← e) (go l h)
-  where
-    go : (m : List ℕ) → AllBytes m → bytesOf (length m) (numberOf m) ≡ m
-    go [] b = refl
-    go (x ∷ xs) b =
-        let hx : x < 256 = b zero in
-        let low : (x + 256 * numberOf xs) % 256 ≡ x = omega arith in
-        let high : (x + 256 * numberOf xs) / 256 ≡ numberOf xs = omega arith in
-        simp (low, high, go xs (λ i. b (suc i)))
 
 pub byteSpan-power : (n : ℕ) → byteSpan n ≡ 2 ^ (8 * n)
 unfolding byteSpan

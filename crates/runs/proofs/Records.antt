@@ -9,8 +9,8 @@ use lib.Seq.{take-all, take-add, length-take-le}
 use Rattle.record.specs.Bytes.{numberOf, bytesOf, byteSpan, AllBytes}
 use Rattle.record.specs.Turned.{turned}
 use Rattle.record.specs.Layout.{checkSize, recordSize, recordBytes, dataIn, checkIn}
-use Rattle.record.proofs.Bytes.{length-bytesOf, bytes-drop}
-use Rattle.runs.proofs.Numbers.{bytes-take, bytes-number, byteSpan-power, number-append, two-numbers, first-number, second-number}
+use Rattle.record.proofs.Bytes.{length-bytesOf, bytes-drop, bytes-number}
+use Rattle.runs.proofs.Numbers.{bytes-take, byteSpan-power, number-append, two-numbers, first-number, second-number}
 use Rattle.runs.proofs.Turned.{turned-first, turned-second, turned-number}
 
 pub length-record : (d word check : ℕ) → length (recordBytes d word check) ≡ recordSize d

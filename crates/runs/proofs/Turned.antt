@@ -11,7 +11,7 @@ use lib.Pow.{pow-lt, pow-add}
 use lib.Seq.{set-append-left, getD-append-add}
 use Rattle.record.specs.Bytes.{numberOf, bytesOf, AllBytes}
 use Rattle.record.specs.Turned.{turned}
-use Rattle.runs.proofs.Numbers.{bytes-number}
+use Rattle.record.proofs.Bytes.{bytes-number}
 
 pub length-turned : (bytes : List ℕ) (p : ℕ) → length (turned bytes p) ≡ length bytes
 unfolding turned

@@ -2,21 +2,55 @@
 
 use crate::program;
 use desk::{ffi, WideWord, Word};
-use second::WideRowCode;
-use second::{Balanced, CardsChecked, Code, Desk, Explained, Judged, Passed, Reading, Refusal, Wanted, Written};
 use second::{
-    ByteRead, ByteWritten, Found, Limit, Made, OfCodes, Pass, PutBack, Questions, Recovered, RowCode, Sheeted, Station,
-    WideCode,
+    Balanced, ByteRead, ByteWritten, CardsChecked, Code, Desk, Explained, Found, Judged, Limit, Made, OfCodes,
 };
+use second::{
+    Pass, Passed, PutBack, Questions, Reading, Recovered, Refusal, RowCode, Sheeted, Station, Wanted, WideCode,
+};
+use second::{WideRowCode, Written};
 
-/// The same code for the linked desk.
+/// The same code for the linked desk, and for the second program.
 fn linked(code: &Code) -> desk::Code {
     desk::Code { columns: code.columns, k: code.k, r: code.r }
 }
 
-/// The same code for the second program.
 fn unlinked(code: desk::Code) -> Code {
     Code { columns: code.columns, k: code.k, r: code.r }
+}
+
+fn linked_wide(code: &WideCode) -> desk::WideCode {
+    desk::WideCode { columns: code.columns, k: code.k, r: code.r }
+}
+
+fn unlinked_wide(code: desk::WideCode) -> WideCode {
+    WideCode { columns: code.columns, k: code.k, r: code.r }
+}
+
+fn linked_rows(code: &RowCode) -> desk::RowCode {
+    desk::RowCode { columns: code.columns, n: code.n, r: code.r, rows: code.rows }
+}
+
+fn linked_wide_rows(code: &WideRowCode) -> desk::WideRowCode {
+    desk::WideRowCode { columns: code.columns, n: code.n, r: code.r, rows: code.rows }
+}
+
+/// A word of one half, or of two.
+fn whole((data, check): (u64, u16)) -> Word {
+    Word { data, check }
+}
+
+fn halved((data, check): (u128, u16)) -> WideWord {
+    WideWord { check, ..data.into() }
+}
+
+/// Its data bits as one number.
+fn data_of(word: Word) -> u64 {
+    word.data
+}
+
+fn wide_data_of(word: WideWord) -> u128 {
+    word.into()
 }
 
 /// The counts of a tally in the order of verdicts.
@@ -30,55 +64,145 @@ fn in_bits(yes: bool, sheet: desk::Sheet) -> Sheeted {
     Sheeted { number: 0, told: 0, yes, device, station, share }
 }
 
+/// Bytes that stand on both sides of what is lent to the quick engine, and must stay.
+const GUARD: [u8; 32] = [0xA7; 32];
+
+fn guarded(bytes: &[u8]) -> Vec<u8> {
+    [&GUARD, bytes, &GUARD].concat()
+}
+
+fn within(guarded: &mut [u8]) -> &mut [u8] {
+    let end = guarded.len() - GUARD.len();
+    &mut guarded[GUARD.len()..end]
+}
+
+/// What the plain engine answers, once the quick one was asked the same of copies between guards: both must agree on the
+/// answer and on every byte.
+fn by_both<A: PartialEq + std::fmt::Debug>(
+    (image, journal): (&mut [u8], &mut [u8]),
+    plain: impl Fn(&mut [u8], &mut [u8]) -> A,
+    quick: impl Fn(&mut [u8], &mut [u8]) -> A,
+) -> A {
+    let (mut quick_image, mut quick_journal) = (guarded(image), guarded(journal));
+    let quickly = quick(within(&mut quick_image), within(&mut quick_journal));
+    let answer = plain(image, journal);
+    assert_eq!(quickly, answer, "the quick engine answers as the plain one");
+    assert!(quick_image == guarded(image), "the quick engine leaves the image as the plain one, and its guards");
+    assert!(quick_journal == guarded(journal), "the quick engine leaves the journal as the plain one, and its guards");
+    answer
+}
+
 /// The archive: every field of every answer, refused ones too.
 pub struct Archive;
 
+/// The questions of a code of either edition whose answers have no word.
+macro_rules! archive_of_any {
+    ($code:ty, $linked:ident, $judge:ident, $row_balance:ident, $cards:ident, $pass:ident, $quick_pass:ident) => {
+        fn name(&self) -> &'static str {
+            "archive"
+        }
+
+        fn judge(&self, code: &$code) -> Judged {
+            let ffi::Judgement { number, told } = ffi::$judge(&$linked(code));
+            Judged { number, told }
+        }
+
+        fn row_balance(&self, code: &$code) -> Balanced {
+            let ffi::RowBalance { number, told, rows } = ffi::$row_balance(&$linked(code));
+            Balanced { number, told, rows }
+        }
+
+        fn card_check(&self, code: &$code, b: usize) -> CardsChecked {
+            let ffi::CardCheck { number, told, card, mask } = ffi::$cards(&$linked(code), b);
+            CardsChecked { number, told, card, mask }
+        }
+
+        fn pass(&self, code: &$code, image: &mut [u8], journal: &mut [u8], asked: &Pass) -> Passed {
+            let Pass { start, end, used, stamp } = *asked;
+            let code = $linked(code);
+            let ffi::PassAnswer { number, told, used, tally } = by_both(
+                (image, journal),
+                |image, journal| ffi::$pass(&code, image, start, end, journal, used, stamp),
+                |image, journal| ffi::$quick_pass(&code, image, start, end, journal, used, stamp),
+            );
+            Passed { number, told, used, tally: counts(tally) }
+        }
+    };
+}
+
+/// Those with a word of up to 64 data bits.
+macro_rules! archive_of_64 {
+    ($code:ty, $linked:ident, $write:ident, $read:ident, $explain:ident, $recover:ident, $find_bad:ident) => {
+        fn write(&self, code: &$code, data: u64) -> Written {
+            let ffi::CheckWord { number, told, check } = ffi::$write(&$linked(code), data);
+            Written { number, told, check }
+        }
+
+        fn read(&self, code: &$code, data: u64, check: u16) -> Reading {
+            let answer = ffi::$read(&$linked(code), data, check);
+            let ffi::ReadWord { number, told, verdict, place, data, check, syndrome } = answer;
+            Reading { number, told, verdict, place, data, check, syndrome }
+        }
+
+        fn explain(&self, code: &$code, data: u64, check: u16, limit: usize, list: &mut [u8]) -> Explained {
+            let ffi::Listing { number, told, length } = ffi::$explain(&$linked(code), data, check, limit, list);
+            Explained { number, told, length }
+        }
+
+        fn recover(&self, code: &$code, data: u64, check: u16, bad: &[usize]) -> Recovered {
+            let ffi::Recovered { number, told, data, check } = ffi::$recover(&$linked(code), data, check, bad);
+            Recovered { number, told, data, check }
+        }
+
+        fn find_bad(&self, code: &$code, first: (u64, u16), second: (u64, u16)) -> Found {
+            let ffi::BadPlaces { number, told, data, check } = ffi::$find_bad(&$linked(code), first, second);
+            Found { number, told, data, check }
+        }
+    };
+}
+
+/// Those with a word of two halves.
+macro_rules! archive_of_128 {
+    ($code:ty, $linked:ident, $write:ident, $read:ident, $explain:ident, $recover:ident, $find_bad:ident) => {
+        fn write(&self, code: &$code, data: u128) -> Written {
+            let WideWord { low, high, .. } = data.into();
+            let ffi::CheckWord { number, told, check } = ffi::$write(&$linked(code), low, high);
+            Written { number, told, check }
+        }
+
+        fn read(&self, code: &$code, data: u128, check: u16) -> Reading<u128> {
+            let answer = ffi::$read(&$linked(code), halved((data, check)));
+            let ffi::WideReadWord { number, told, verdict, place, syndrome, word } = answer;
+            Reading { number, told, verdict, place, data: word.into(), check: word.check, syndrome }
+        }
+
+        fn explain(&self, code: &$code, data: u128, check: u16, limit: usize, list: &mut [u8]) -> Explained {
+            let answer = ffi::$explain(&$linked(code), halved((data, check)), limit, list);
+            let ffi::Listing { number, told, length } = answer;
+            Explained { number, told, length }
+        }
+
+        fn recover(&self, code: &$code, data: u128, check: u16, bad: &[usize]) -> Recovered<u128> {
+            let answer = ffi::$recover(&$linked(code), halved((data, check)), bad);
+            let ffi::WideRecovered { number, told, word } = answer;
+            Recovered { number, told, data: word.into(), check: word.check }
+        }
+
+        fn find_bad(&self, code: &$code, first: (u128, u16), second: (u128, u16)) -> Found<u128> {
+            let answer = ffi::$find_bad(&$linked(code), halved(first), halved(second));
+            let ffi::WideBadPlaces { number, told, word } = answer;
+            Found { number, told, data: word.into(), check: word.check }
+        }
+    };
+}
+
 impl Desk for Archive {
-    fn name(&self) -> &'static str {
-        "archive"
-    }
+    archive_of_any!(Code, linked, judge, row_balance, cards, pass, quick_pass);
+    archive_of_64!(Code, linked, write, read, explain, recover, find_bad);
 
     fn wanted(&self, k: usize) -> Wanted {
         let ffi::CheckBits { number, bits } = ffi::check_bits(k);
         Wanted { number, check_bits: bits }
-    }
-
-    fn judge(&self, code: &Code) -> Judged {
-        let ffi::Judgement { number, told } = ffi::judge(&linked(code));
-        Judged { number, told }
-    }
-
-    fn row_balance(&self, code: &Code) -> Balanced {
-        let ffi::RowBalance { number, told, rows } = ffi::row_balance(&linked(code));
-        Balanced { number, told, rows }
-    }
-
-    fn write(&self, code: &Code, data: u64) -> Written {
-        let ffi::CheckWord { number, told, check } = ffi::write(&linked(code), data);
-        Written { number, told, check }
-    }
-
-    fn read(&self, code: &Code, data: u64, check: u16) -> Reading {
-        let answer = ffi::read(&linked(code), data, check);
-        let ffi::ReadWord { number, told, verdict, place, data, check, syndrome } = answer;
-        Reading { number, told, verdict, place, data, check, syndrome }
-    }
-
-    fn explain(&self, code: &Code, data: u64, check: u16, limit: usize, list: &mut [u8]) -> Explained {
-        let ffi::Listing { number, told, length } = ffi::explain(&linked(code), data, check, limit, list);
-        Explained { number, told, length }
-    }
-
-    fn card_check(&self, code: &Code, b: usize) -> CardsChecked {
-        let ffi::CardCheck { number, told, card, mask } = ffi::cards(&linked(code), b);
-        CardsChecked { number, told, card, mask }
-    }
-
-    fn pass(&self, code: &Code, image: &mut [u8], journal: &mut [u8], asked: &Pass) -> Passed {
-        let Pass { start, end, used, stamp } = *asked;
-        let answer = ffi::pass(&linked(code), image, start, end, journal, used, stamp);
-        let ffi::PassAnswer { number, told, used, tally } = answer;
-        Passed { number, told, used, tally: counts(tally) }
     }
 
     fn put_back(&self, image: &mut [u8], journal: &mut [u8], used: usize) -> PutBack {
@@ -112,19 +236,57 @@ impl Desk for Archive {
         ByteRead { number, told, verdict, byte: byte.0, word }
     }
 
-    fn recover(&self, code: &Code, data: u64, check: u16, bad: &[usize]) -> Recovered {
-        let ffi::Recovered { number, told, data, check } = ffi::recover(&linked(code), data, check, bad);
-        Recovered { number, told, data, check }
-    }
-
-    fn find_bad(&self, code: &Code, first: (u64, u16), second: (u64, u16)) -> Found {
-        let ffi::BadPlaces { number, told, data, check } = ffi::find_bad(&linked(code), first, second);
-        Found { number, told, data, check }
-    }
-
     fn mend(&self, input: &[u8]) -> String {
         program::mend(input)
     }
+}
+
+impl OfCodes<WideCode> for Archive {
+    archive_of_any!(WideCode, linked_wide, wide_judge, wide_row_balance, wide_cards, wide_pass, wide_quick_pass);
+    archive_of_128!(WideCode, linked_wide, wide_write, wide_read, wide_explain, wide_recover, wide_find_bad);
+}
+
+impl Questions<WideCode> for Archive {
+    fn wanted(&self, k: usize) -> Wanted {
+        let ffi::CheckBits { number, bits } = ffi::wide_check_bits(k);
+        Wanted { number, check_bits: bits }
+    }
+
+    fn put_back(&self, image: &mut [u8], journal: &mut [u8], used: usize) -> PutBack {
+        let ffi::PutBack { number, told, count } = ffi::wide_put_back(image, journal, used);
+        PutBack { number, told, count }
+    }
+
+    fn make(&self, k: usize, r: usize) -> Made<WideCode> {
+        let ffi::WideMade { number, code } = ffi::wide_make(k, r);
+        Made { number, code: unlinked_wide(code) }
+    }
+}
+
+impl OfCodes<RowCode> for Archive {
+    archive_of_any!(RowCode, linked_rows, rows_judge, rows_row_balance, rows_cards, rows_pass, rows_quick_pass);
+    archive_of_64!(RowCode, linked_rows, rows_write, rows_read, rows_explain, rows_recover, rows_find_bad);
+}
+
+impl OfCodes<WideRowCode> for Archive {
+    archive_of_any!(
+        WideRowCode,
+        linked_wide_rows,
+        wide_rows_judge,
+        wide_rows_row_balance,
+        wide_rows_cards,
+        wide_rows_pass,
+        wide_rows_quick_pass
+    );
+    archive_of_128!(
+        WideRowCode,
+        linked_wide_rows,
+        wide_rows_write,
+        wide_rows_read,
+        wide_rows_explain,
+        wide_rows_recover,
+        wide_rows_find_bad
+    );
 }
 
 /// The wrapper: its numbers must be the archive's, with nothing lost.
@@ -135,64 +297,92 @@ fn refused(refusal: desk::Refusal) -> Refusal {
     Refusal { number: refusal.number(), told: refusal.told() }
 }
 
+/// The questions of a code of any family and edition, whose words the wrapper has as `$word`.
+macro_rules! wrapper_of {
+    ($code:ty, $linked:ident, $data:ty, $word:ident, $data_of:ident) => {
+        fn name(&self) -> &'static str {
+            "wrapper"
+        }
+
+        fn judge(&self, code: &$code) -> Judged {
+            $linked(code).judge().map_or_else(|refusal| refused(refusal).into(), |()| Judged::default())
+        }
+
+        fn row_balance(&self, code: &$code) -> Balanced {
+            let done = |rows| Balanced { rows, ..Balanced::default() };
+            $linked(code).row_balance().map_or_else(|refusal| refused(refusal).into(), done)
+        }
+
+        fn write(&self, code: &$code, data: $data) -> Written {
+            let done = |check| Written { check, ..Written::default() };
+            $linked(code).write(data).map_or_else(|refusal| refused(refusal).into(), done)
+        }
+
+        fn read(&self, code: &$code, data: $data, check: u16) -> Reading<$data> {
+            let done = |reading: desk::Reading<_>| Reading {
+                verdict: reading.verdict.number(),
+                place: reading.place.unwrap_or(255),
+                data: $data_of(reading.word),
+                check: reading.word.check,
+                syndrome: reading.syndrome,
+                ..Reading::default()
+            };
+            $linked(code).read($word((data, check))).map_or_else(|refusal| refused(refusal).into(), done)
+        }
+
+        fn explain(&self, code: &$code, data: $data, check: u16, limit: usize, list: &mut [u8]) -> Explained {
+            let done = |length| Explained { length, ..Explained::default() };
+            let answer = $linked(code).explain_into($word((data, check)), limit, list);
+            answer.map_or_else(|refusal| refused(refusal).into(), done)
+        }
+
+        fn card_check(&self, code: &$code, b: usize) -> CardsChecked {
+            match $linked(code).card_check(b) {
+                Ok(()) => CardsChecked::default(),
+                Err(desk::Refusal::WeakCard { card, mask }) => CardsChecked { number: 9, told: 0, card, mask },
+                Err(refusal) => refused(refusal).into(),
+            }
+        }
+
+        fn pass(&self, code: &$code, image: &mut [u8], journal: &mut [u8], asked: &Pass) -> Passed {
+            let Pass { start, end, used, stamp } = *asked;
+            let code = $linked(code);
+            let answer = by_both(
+                (image, journal),
+                |image, journal| code.pass(image, start..end, journal, used, stamp),
+                |image, journal| code.quick_pass(image, start..end, journal, used, stamp),
+            );
+            let done =
+                |passed: desk::Passed| Passed { used: passed.used, tally: counts(passed.tally), ..Passed::default() };
+            answer.map_or_else(|refusal| refused(refusal).into(), done)
+        }
+
+        fn recover(&self, code: &$code, data: $data, check: u16, bad: &[usize]) -> Recovered<$data> {
+            let answer = $linked(code).recover($word((data, check)), bad);
+            answer.map_or_else(
+                |refusal| refused(refusal).into(),
+                |word| Recovered { data: $data_of(word), check: word.check, ..Recovered::default() },
+            )
+        }
+
+        fn find_bad(&self, code: &$code, first: ($data, u16), second: ($data, u16)) -> Found<$data> {
+            let answer = $linked(code).find_bad($word(first), $word(second));
+            answer.map_or_else(
+                |refusal| refused(refusal).into(),
+                |word| Found { data: $data_of(word), check: word.check, ..Found::default() },
+            )
+        }
+    };
+}
+
 impl Desk for Wrapper {
-    fn name(&self) -> &'static str {
-        "wrapper"
-    }
+    wrapper_of!(Code, linked, u64, whole, data_of);
 
     fn wanted(&self, k: usize) -> Wanted {
         match desk::check_bits_wanted(k) {
             Ok(check_bits) => Wanted { number: 0, check_bits },
             Err(refusal) => Wanted { number: refusal.number(), check_bits: refusal.told() },
         }
-    }
-
-    fn judge(&self, code: &Code) -> Judged {
-        linked(code).judge().map_or_else(|refusal| refused(refusal).into(), |()| Judged::default())
-    }
-
-    fn row_balance(&self, code: &Code) -> Balanced {
-        let done = |rows| Balanced { rows, ..Balanced::default() };
-        linked(code).row_balance().map_or_else(|refusal| refused(refusal).into(), done)
-    }
-
-    fn write(&self, code: &Code, data: u64) -> Written {
-        let done = |check| Written { check, ..Written::default() };
-        linked(code).write(data).map_or_else(|refusal| refused(refusal).into(), done)
-    }
-
-    fn read(&self, code: &Code, data: u64, check: u16) -> Reading {
-        let done = |reading: desk::Reading| Reading {
-            verdict: reading.verdict.number(),
-            place: reading.place.unwrap_or(255),
-            data: reading.word.data,
-            check: reading.word.check,
-            syndrome: reading.syndrome,
-            ..Reading::default()
-        };
-        linked(code).read(Word { data, check }).map_or_else(|refusal| refused(refusal).into(), done)
-    }
-
-    fn explain(&self, code: &Code, data: u64, check: u16, limit: usize, list: &mut [u8]) -> Explained {
-        let done = |length| Explained { length, ..Explained::default() };
-        let answer = linked(code).explain_into(Word { data, check }, limit, list);
-        answer.map_or_else(|refusal| refused(refusal).into(), done)
-    }
-
-    fn card_check(&self, code: &Code, b: usize) -> CardsChecked {
-        match linked(code).card_check(b) {
-            Ok(()) => CardsChecked::default(),
-            Err(desk::Refusal::WeakCard { card, mask }) => CardsChecked { number: 9, told: 0, card, mask },
-            Err(refusal) => refused(refusal).into(),
-        }
-    }
-
-    fn pass(&self, code: &Code, image: &mut [u8], journal: &mut [u8], asked: &Pass) -> Passed {
-        let Pass { start, end, used, stamp } = *asked;
-        let done =
-            |passed: desk::Passed| Passed { used: passed.used, tally: counts(passed.tally), ..Passed::default() };
-        let answer = linked(code).pass(image, start..end, journal, used, stamp);
-        answer.map_or_else(|refusal| refused(refusal).into(), done)
     }
 
     fn put_back(&self, image: &mut [u8], journal: &mut [u8], used: usize) -> PutBack {
@@ -237,176 +427,13 @@ impl Desk for Wrapper {
         desk::byte_read(word).map_or_else(|refusal| refused(refusal).into(), done)
     }
 
-    fn recover(&self, code: &Code, data: u64, check: u16, bad: &[usize]) -> Recovered {
-        let done = |word: Word| Recovered { data: word.data, check: word.check, ..Recovered::default() };
-        linked(code).recover(Word { data, check }, bad).map_or_else(|refusal| refused(refusal).into(), done)
-    }
-
-    fn find_bad(&self, code: &Code, first: (u64, u16), second: (u64, u16)) -> Found {
-        let word = |(data, check)| Word { data, check };
-        let done = |word: Word| Found { data: word.data, check: word.check, ..Found::default() };
-        linked(code).find_bad(word(first), word(second)).map_or_else(|refusal| refused(refusal).into(), done)
-    }
-
     fn mend(&self, input: &[u8]) -> String {
         program::mend(input)
     }
 }
 
-/// The same code for the linked desk, in the wide edition.
-fn linked_wide(code: &WideCode) -> desk::WideCode {
-    desk::WideCode { columns: code.columns, k: code.k, r: code.r }
-}
-
-/// The same code for the second program, in the wide edition.
-fn unlinked_wide(code: desk::WideCode) -> WideCode {
-    WideCode { columns: code.columns, k: code.k, r: code.r }
-}
-
-/// A word in two halves.
-fn halved(data: u128, check: u16) -> WideWord {
-    WideWord { low: data as u64, high: (data >> 64) as u64, check }
-}
-
-impl OfCodes<WideCode> for Archive {
-    fn name(&self) -> &'static str {
-        "archive"
-    }
-
-    fn judge(&self, code: &WideCode) -> Judged {
-        let ffi::Judgement { number, told } = ffi::wide_judge(&linked_wide(code));
-        Judged { number, told }
-    }
-
-    fn row_balance(&self, code: &WideCode) -> Balanced {
-        let ffi::RowBalance { number, told, rows } = ffi::wide_row_balance(&linked_wide(code));
-        Balanced { number, told, rows }
-    }
-
-    fn write(&self, code: &WideCode, data: u128) -> Written {
-        let ffi::CheckWord { number, told, check } =
-            ffi::wide_write(&linked_wide(code), data as u64, (data >> 64) as u64);
-        Written { number, told, check }
-    }
-
-    fn read(&self, code: &WideCode, data: u128, check: u16) -> Reading<u128> {
-        let ffi::WideReadWord { number, told, verdict, place, syndrome, word } =
-            ffi::wide_read(&linked_wide(code), halved(data, check));
-        let data = u128::from(word.low) | u128::from(word.high) << 64;
-        Reading { number, told, verdict, place, data, check: word.check, syndrome }
-    }
-
-    fn explain(&self, code: &WideCode, data: u128, check: u16, limit: usize, list: &mut [u8]) -> Explained {
-        let ffi::Listing { number, told, length } =
-            ffi::wide_explain(&linked_wide(code), halved(data, check), limit, list);
-        Explained { number, told, length }
-    }
-
-    fn card_check(&self, code: &WideCode, b: usize) -> CardsChecked {
-        let ffi::CardCheck { number, told, card, mask } = ffi::wide_cards(&linked_wide(code), b);
-        CardsChecked { number, told, card, mask }
-    }
-
-    fn pass(&self, code: &WideCode, image: &mut [u8], journal: &mut [u8], asked: &Pass) -> Passed {
-        let Pass { start, end, used, stamp } = *asked;
-        let answer = ffi::wide_pass(&linked_wide(code), image, start, end, journal, used, stamp);
-        let ffi::PassAnswer { number, told, used, tally } = answer;
-        Passed { number, told, used, tally: counts(tally) }
-    }
-
-    fn recover(&self, code: &WideCode, data: u128, check: u16, bad: &[usize]) -> Recovered<u128> {
-        let ffi::WideRecovered { number, told, word } = ffi::wide_recover(&linked_wide(code), halved(data, check), bad);
-        Recovered { number, told, data: word.into(), check: word.check }
-    }
-
-    fn find_bad(&self, code: &WideCode, first: (u128, u16), second: (u128, u16)) -> Found<u128> {
-        let (first, second) = (halved(first.0, first.1), halved(second.0, second.1));
-        let ffi::WideBadPlaces { number, told, word } = ffi::wide_find_bad(&linked_wide(code), first, second);
-        Found { number, told, data: word.into(), check: word.check }
-    }
-}
-
-impl Questions<WideCode> for Archive {
-    fn wanted(&self, k: usize) -> Wanted {
-        let ffi::CheckBits { number, bits } = ffi::wide_check_bits(k);
-        Wanted { number, check_bits: bits }
-    }
-
-    fn put_back(&self, image: &mut [u8], journal: &mut [u8], used: usize) -> PutBack {
-        let ffi::PutBack { number, told, count } = ffi::wide_put_back(image, journal, used);
-        PutBack { number, told, count }
-    }
-
-    fn make(&self, k: usize, r: usize) -> Made<WideCode> {
-        let ffi::WideMade { number, code } = ffi::wide_make(k, r);
-        Made { number, code: unlinked_wide(code) }
-    }
-}
-
 impl OfCodes<WideCode> for Wrapper {
-    fn name(&self) -> &'static str {
-        "wrapper"
-    }
-
-    fn judge(&self, code: &WideCode) -> Judged {
-        linked_wide(code).judge().map_or_else(|refusal| refused(refusal).into(), |()| Judged::default())
-    }
-
-    fn row_balance(&self, code: &WideCode) -> Balanced {
-        let done = |rows| Balanced { rows, ..Balanced::default() };
-        linked_wide(code).row_balance().map_or_else(|refusal| refused(refusal).into(), done)
-    }
-
-    fn write(&self, code: &WideCode, data: u128) -> Written {
-        let done = |check| Written { check, ..Written::default() };
-        linked_wide(code).write(data).map_or_else(|refusal| refused(refusal).into(), done)
-    }
-
-    fn read(&self, code: &WideCode, data: u128, check: u16) -> Reading<u128> {
-        let done = |reading: desk::Reading<WideWord>| Reading {
-            verdict: reading.verdict.number(),
-            place: reading.place.unwrap_or(255),
-            data: reading.word.into(),
-            check: reading.word.check,
-            syndrome: reading.syndrome,
-            ..Reading::default()
-        };
-        let answer = linked_wide(code).read(WideWord { check, ..data.into() });
-        answer.map_or_else(|refusal| refused(refusal).into(), done)
-    }
-
-    fn explain(&self, code: &WideCode, data: u128, check: u16, limit: usize, list: &mut [u8]) -> Explained {
-        let done = |length| Explained { length, ..Explained::default() };
-        let answer = linked_wide(code).explain_into(WideWord { check, ..data.into() }, limit, list);
-        answer.map_or_else(|refusal| refused(refusal).into(), done)
-    }
-
-    fn card_check(&self, code: &WideCode, b: usize) -> CardsChecked {
-        match linked_wide(code).card_check(b) {
-            Ok(()) => CardsChecked::default(),
-            Err(desk::Refusal::WeakCard { card, mask }) => CardsChecked { number: 9, told: 0, card, mask },
-            Err(refusal) => refused(refusal).into(),
-        }
-    }
-
-    fn pass(&self, code: &WideCode, image: &mut [u8], journal: &mut [u8], asked: &Pass) -> Passed {
-        let Pass { start, end, used, stamp } = *asked;
-        let done =
-            |passed: desk::Passed| Passed { used: passed.used, tally: counts(passed.tally), ..Passed::default() };
-        let answer = linked_wide(code).pass(image, start..end, journal, used, stamp);
-        answer.map_or_else(|refusal| refused(refusal).into(), done)
-    }
-
-    fn recover(&self, code: &WideCode, data: u128, check: u16, bad: &[usize]) -> Recovered<u128> {
-        let done = |word: WideWord| Recovered { data: word.into(), check: word.check, ..Recovered::default() };
-        linked_wide(code).recover(halved(data, check), bad).map_or_else(|refusal| refused(refusal).into(), done)
-    }
-
-    fn find_bad(&self, code: &WideCode, first: (u128, u16), second: (u128, u16)) -> Found<u128> {
-        let done = |word: WideWord| Found { data: word.into(), check: word.check, ..Found::default() };
-        let (first, second) = (halved(first.0, first.1), halved(second.0, second.1));
-        linked_wide(code).find_bad(first, second).map_or_else(|refusal| refused(refusal).into(), done)
-    }
+    wrapper_of!(WideCode, linked_wide, u128, halved, wide_data_of);
 }
 
 impl Questions<WideCode> for Wrapper {
@@ -433,258 +460,12 @@ impl Questions<WideCode> for Wrapper {
     }
 }
 
-/// The same code with a set of rows for the linked desk.
-fn linked_rows(code: &RowCode) -> desk::RowCode {
-    desk::RowCode { columns: code.columns, n: code.n, r: code.r, rows: code.rows }
-}
-
-/// The same in the wide edition.
-fn linked_wide_rows(code: &WideRowCode) -> desk::WideRowCode {
-    desk::WideRowCode { columns: code.columns, n: code.n, r: code.r, rows: code.rows }
-}
-
-impl OfCodes<RowCode> for Archive {
-    fn name(&self) -> &'static str {
-        "archive"
-    }
-
-    fn judge(&self, code: &RowCode) -> Judged {
-        let ffi::Judgement { number, told } = ffi::rows_judge(&linked_rows(code));
-        Judged { number, told }
-    }
-
-    fn row_balance(&self, code: &RowCode) -> Balanced {
-        let ffi::RowBalance { number, told, rows } = ffi::rows_row_balance(&linked_rows(code));
-        Balanced { number, told, rows }
-    }
-
-    fn write(&self, code: &RowCode, data: u64) -> Written {
-        let ffi::CheckWord { number, told, check } = ffi::rows_write(&linked_rows(code), data);
-        Written { number, told, check }
-    }
-
-    fn read(&self, code: &RowCode, data: u64, check: u16) -> Reading {
-        let answer = ffi::rows_read(&linked_rows(code), data, check);
-        let ffi::ReadWord { number, told, verdict, place, data, check, syndrome } = answer;
-        Reading { number, told, verdict, place, data, check, syndrome }
-    }
-
-    fn explain(&self, code: &RowCode, data: u64, check: u16, limit: usize, list: &mut [u8]) -> Explained {
-        let ffi::Listing { number, told, length } = ffi::rows_explain(&linked_rows(code), data, check, limit, list);
-        Explained { number, told, length }
-    }
-
-    fn card_check(&self, code: &RowCode, b: usize) -> CardsChecked {
-        let ffi::CardCheck { number, told, card, mask } = ffi::rows_cards(&linked_rows(code), b);
-        CardsChecked { number, told, card, mask }
-    }
-
-    fn pass(&self, code: &RowCode, image: &mut [u8], journal: &mut [u8], asked: &Pass) -> Passed {
-        let Pass { start, end, used, stamp } = *asked;
-        let answer = ffi::rows_pass(&linked_rows(code), image, start, end, journal, used, stamp);
-        let ffi::PassAnswer { number, told, used, tally } = answer;
-        Passed { number, told, used, tally: counts(tally) }
-    }
-
-    fn recover(&self, code: &RowCode, data: u64, check: u16, bad: &[usize]) -> Recovered {
-        let ffi::Recovered { number, told, data, check } = ffi::rows_recover(&linked_rows(code), data, check, bad);
-        Recovered { number, told, data, check }
-    }
-
-    fn find_bad(&self, code: &RowCode, first: (u64, u16), second: (u64, u16)) -> Found {
-        let ffi::BadPlaces { number, told, data, check } = ffi::rows_find_bad(&linked_rows(code), first, second);
-        Found { number, told, data, check }
-    }
-}
-
 impl OfCodes<RowCode> for Wrapper {
-    fn name(&self) -> &'static str {
-        "wrapper"
-    }
-
-    fn judge(&self, code: &RowCode) -> Judged {
-        linked_rows(code).judge().map_or_else(|refusal| refused(refusal).into(), |()| Judged::default())
-    }
-
-    fn row_balance(&self, code: &RowCode) -> Balanced {
-        let done = |rows| Balanced { rows, ..Balanced::default() };
-        linked_rows(code).row_balance().map_or_else(|refusal| refused(refusal).into(), done)
-    }
-
-    fn write(&self, code: &RowCode, data: u64) -> Written {
-        let done = |check| Written { check, ..Written::default() };
-        linked_rows(code).write(data).map_or_else(|refusal| refused(refusal).into(), done)
-    }
-
-    fn read(&self, code: &RowCode, data: u64, check: u16) -> Reading {
-        let done = |reading: desk::Reading| Reading {
-            verdict: reading.verdict.number(),
-            place: reading.place.unwrap_or(255),
-            data: reading.word.data,
-            check: reading.word.check,
-            syndrome: reading.syndrome,
-            ..Reading::default()
-        };
-        linked_rows(code).read(Word { data, check }).map_or_else(|refusal| refused(refusal).into(), done)
-    }
-
-    fn explain(&self, code: &RowCode, data: u64, check: u16, limit: usize, list: &mut [u8]) -> Explained {
-        let done = |length| Explained { length, ..Explained::default() };
-        let answer = linked_rows(code).explain_into(Word { data, check }, limit, list);
-        answer.map_or_else(|refusal| refused(refusal).into(), done)
-    }
-
-    fn card_check(&self, code: &RowCode, b: usize) -> CardsChecked {
-        match linked_rows(code).card_check(b) {
-            Ok(()) => CardsChecked::default(),
-            Err(desk::Refusal::WeakCard { card, mask }) => CardsChecked { number: 9, told: 0, card, mask },
-            Err(refusal) => refused(refusal).into(),
-        }
-    }
-
-    fn pass(&self, code: &RowCode, image: &mut [u8], journal: &mut [u8], asked: &Pass) -> Passed {
-        let Pass { start, end, used, stamp } = *asked;
-        let done =
-            |passed: desk::Passed| Passed { used: passed.used, tally: counts(passed.tally), ..Passed::default() };
-        let answer = linked_rows(code).pass(image, start..end, journal, used, stamp);
-        answer.map_or_else(|refusal| refused(refusal).into(), done)
-    }
-
-    fn recover(&self, code: &RowCode, data: u64, check: u16, bad: &[usize]) -> Recovered {
-        let done = |word: Word| Recovered { data: word.data, check: word.check, ..Recovered::default() };
-        linked_rows(code).recover(Word { data, check }, bad).map_or_else(|refusal| refused(refusal).into(), done)
-    }
-
-    fn find_bad(&self, code: &RowCode, first: (u64, u16), second: (u64, u16)) -> Found {
-        let word = |(data, check)| Word { data, check };
-        let done = |word: Word| Found { data: word.data, check: word.check, ..Found::default() };
-        linked_rows(code).find_bad(word(first), word(second)).map_or_else(|refusal| refused(refusal).into(), done)
-    }
-}
-
-impl OfCodes<WideRowCode> for Archive {
-    fn name(&self) -> &'static str {
-        "archive"
-    }
-
-    fn judge(&self, code: &WideRowCode) -> Judged {
-        let ffi::Judgement { number, told } = ffi::wide_rows_judge(&linked_wide_rows(code));
-        Judged { number, told }
-    }
-
-    fn row_balance(&self, code: &WideRowCode) -> Balanced {
-        let ffi::RowBalance { number, told, rows } = ffi::wide_rows_row_balance(&linked_wide_rows(code));
-        Balanced { number, told, rows }
-    }
-
-    fn write(&self, code: &WideRowCode, data: u128) -> Written {
-        let ffi::CheckWord { number, told, check } =
-            ffi::wide_rows_write(&linked_wide_rows(code), data as u64, (data >> 64) as u64);
-        Written { number, told, check }
-    }
-
-    fn read(&self, code: &WideRowCode, data: u128, check: u16) -> Reading<u128> {
-        let ffi::WideReadWord { number, told, verdict, place, syndrome, word } =
-            ffi::wide_rows_read(&linked_wide_rows(code), halved(data, check));
-        let data = u128::from(word.low) | u128::from(word.high) << 64;
-        Reading { number, told, verdict, place, data, check: word.check, syndrome }
-    }
-
-    fn explain(&self, code: &WideRowCode, data: u128, check: u16, limit: usize, list: &mut [u8]) -> Explained {
-        let ffi::Listing { number, told, length } =
-            ffi::wide_rows_explain(&linked_wide_rows(code), halved(data, check), limit, list);
-        Explained { number, told, length }
-    }
-
-    fn card_check(&self, code: &WideRowCode, b: usize) -> CardsChecked {
-        let ffi::CardCheck { number, told, card, mask } = ffi::wide_rows_cards(&linked_wide_rows(code), b);
-        CardsChecked { number, told, card, mask }
-    }
-
-    fn pass(&self, code: &WideRowCode, image: &mut [u8], journal: &mut [u8], asked: &Pass) -> Passed {
-        let Pass { start, end, used, stamp } = *asked;
-        let answer = ffi::wide_rows_pass(&linked_wide_rows(code), image, start, end, journal, used, stamp);
-        let ffi::PassAnswer { number, told, used, tally } = answer;
-        Passed { number, told, used, tally: counts(tally) }
-    }
-
-    fn recover(&self, code: &WideRowCode, data: u128, check: u16, bad: &[usize]) -> Recovered<u128> {
-        let ffi::WideRecovered { number, told, word } =
-            ffi::wide_rows_recover(&linked_wide_rows(code), halved(data, check), bad);
-        Recovered { number, told, data: word.into(), check: word.check }
-    }
-
-    fn find_bad(&self, code: &WideRowCode, first: (u128, u16), second: (u128, u16)) -> Found<u128> {
-        let (first, second) = (halved(first.0, first.1), halved(second.0, second.1));
-        let ffi::WideBadPlaces { number, told, word } = ffi::wide_rows_find_bad(&linked_wide_rows(code), first, second);
-        Found { number, told, data: word.into(), check: word.check }
-    }
+    wrapper_of!(RowCode, linked_rows, u64, whole, data_of);
 }
 
 impl OfCodes<WideRowCode> for Wrapper {
-    fn name(&self) -> &'static str {
-        "wrapper"
-    }
-
-    fn judge(&self, code: &WideRowCode) -> Judged {
-        linked_wide_rows(code).judge().map_or_else(|refusal| refused(refusal).into(), |()| Judged::default())
-    }
-
-    fn row_balance(&self, code: &WideRowCode) -> Balanced {
-        let done = |rows| Balanced { rows, ..Balanced::default() };
-        linked_wide_rows(code).row_balance().map_or_else(|refusal| refused(refusal).into(), done)
-    }
-
-    fn write(&self, code: &WideRowCode, data: u128) -> Written {
-        let done = |check| Written { check, ..Written::default() };
-        linked_wide_rows(code).write(data).map_or_else(|refusal| refused(refusal).into(), done)
-    }
-
-    fn read(&self, code: &WideRowCode, data: u128, check: u16) -> Reading<u128> {
-        let done = |reading: desk::Reading<WideWord>| Reading {
-            verdict: reading.verdict.number(),
-            place: reading.place.unwrap_or(255),
-            data: reading.word.into(),
-            check: reading.word.check,
-            syndrome: reading.syndrome,
-            ..Reading::default()
-        };
-        let answer = linked_wide_rows(code).read(WideWord { check, ..data.into() });
-        answer.map_or_else(|refusal| refused(refusal).into(), done)
-    }
-
-    fn explain(&self, code: &WideRowCode, data: u128, check: u16, limit: usize, list: &mut [u8]) -> Explained {
-        let done = |length| Explained { length, ..Explained::default() };
-        let answer = linked_wide_rows(code).explain_into(WideWord { check, ..data.into() }, limit, list);
-        answer.map_or_else(|refusal| refused(refusal).into(), done)
-    }
-
-    fn card_check(&self, code: &WideRowCode, b: usize) -> CardsChecked {
-        match linked_wide_rows(code).card_check(b) {
-            Ok(()) => CardsChecked::default(),
-            Err(desk::Refusal::WeakCard { card, mask }) => CardsChecked { number: 9, told: 0, card, mask },
-            Err(refusal) => refused(refusal).into(),
-        }
-    }
-
-    fn pass(&self, code: &WideRowCode, image: &mut [u8], journal: &mut [u8], asked: &Pass) -> Passed {
-        let Pass { start, end, used, stamp } = *asked;
-        let done =
-            |passed: desk::Passed| Passed { used: passed.used, tally: counts(passed.tally), ..Passed::default() };
-        let answer = linked_wide_rows(code).pass(image, start..end, journal, used, stamp);
-        answer.map_or_else(|refusal| refused(refusal).into(), done)
-    }
-
-    fn recover(&self, code: &WideRowCode, data: u128, check: u16, bad: &[usize]) -> Recovered<u128> {
-        let done = |word: WideWord| Recovered { data: word.into(), check: word.check, ..Recovered::default() };
-        linked_wide_rows(code).recover(halved(data, check), bad).map_or_else(|refusal| refused(refusal).into(), done)
-    }
-
-    fn find_bad(&self, code: &WideRowCode, first: (u128, u16), second: (u128, u16)) -> Found<u128> {
-        let done = |word: WideWord| Found { data: word.into(), check: word.check, ..Found::default() };
-        let (first, second) = (halved(first.0, first.1), halved(second.0, second.1));
-        linked_wide_rows(code).find_bad(first, second).map_or_else(|refusal| refused(refusal).into(), done)
-    }
+    wrapper_of!(WideRowCode, linked_wide_rows, u128, halved, wide_data_of);
 }
 
 #[cfg(test)]

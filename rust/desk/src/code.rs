@@ -276,4 +276,34 @@ impl Code {
         let answer = ffi::pass(self, image, run.start, run.end, journal, used, stamp);
         done(answer.number, answer.told, Passed { used: answer.used, tally: answer.tally })
     }
+
+    /// The same as [`Code::pass`] by the quick engine: the same answer, image and journal, whatever is asked.
+    ///
+    /// ```
+    /// use desk::{Code, Refusal, ENTRY};
+    ///
+    /// # fn main() -> Result<(), Refusal> {
+    /// let code = Code::new(&[28, 26, 25, 22, 21, 19, 14, 13], 5)?;
+    /// let mut image = [0xA4, 0, 0, 0, 0, 0, 0, 0, 27, 0].repeat(100);
+    /// let mut quickly = image.clone();
+    /// let (mut journal, mut entries) = ([0; 100 * ENTRY], [0; 100 * ENTRY]);
+    ///
+    /// let passed = code.pass(&mut image, 0..100, &mut journal, 0, 7)?;
+    /// assert_eq!(code.quick_pass(&mut quickly, 0..100, &mut entries, 0, 7)?, passed);
+    /// assert_eq!((quickly, entries), (image, journal));
+    /// assert_eq!(passed.tally.data, 100);
+    /// # Ok(())
+    /// # }
+    /// ```
+    pub fn quick_pass(
+        &self,
+        image: &mut [u8],
+        run: Range<usize>,
+        journal: &mut [u8],
+        used: usize,
+        stamp: u32,
+    ) -> Result<Passed, Refusal> {
+        let answer = ffi::quick_pass(self, image, run.start, run.end, journal, used, stamp);
+        done(answer.number, answer.told, Passed { used: answer.used, tally: answer.tally })
+    }
 }

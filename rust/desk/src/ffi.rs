@@ -403,6 +403,17 @@ extern "C" {
         used: usize,
         stamp: u32,
     ) -> PassAnswer;
+    fn desk_quick_pass(
+        code: Code,
+        image: *mut u8,
+        image_length: usize,
+        start: usize,
+        end: usize,
+        journal: *mut u8,
+        journal_length: usize,
+        used: usize,
+        stamp: u32,
+    ) -> PassAnswer;
     fn desk_put_back(
         image: *mut u8,
         image_length: usize,
@@ -435,6 +446,17 @@ extern "C" {
     ) -> Listing;
     fn desk_wide_cards(code: WideCode, b: usize) -> CardCheck;
     fn desk_wide_pass(
+        code: WideCode,
+        image: *mut u8,
+        image_length: usize,
+        start: usize,
+        end: usize,
+        journal: *mut u8,
+        journal_length: usize,
+        used: usize,
+        stamp: u32,
+    ) -> PassAnswer;
+    fn desk_wide_quick_pass(
         code: WideCode,
         image: *mut u8,
         image_length: usize,
@@ -485,6 +507,17 @@ extern "C" {
         used: usize,
         stamp: u32,
     ) -> PassAnswer;
+    fn desk_rows_quick_pass(
+        code: RowCode,
+        image: *mut u8,
+        image_length: usize,
+        start: usize,
+        end: usize,
+        journal: *mut u8,
+        journal_length: usize,
+        used: usize,
+        stamp: u32,
+    ) -> PassAnswer;
     fn desk_rows_recover(code: RowCode, data: u64, check: u16, bad: *const usize, count: usize) -> Recovered;
     fn desk_rows_find_bad(
         code: RowCode,
@@ -517,6 +550,17 @@ extern "C" {
     ) -> Listing;
     fn desk_wide_rows_cards(code: WideRowCode, b: usize) -> CardCheck;
     fn desk_wide_rows_pass(
+        code: WideRowCode,
+        image: *mut u8,
+        image_length: usize,
+        start: usize,
+        end: usize,
+        journal: *mut u8,
+        journal_length: usize,
+        used: usize,
+        stamp: u32,
+    ) -> PassAnswer;
+    fn desk_wide_rows_quick_pass(
         code: WideRowCode,
         image: *mut u8,
         image_length: usize,
@@ -598,6 +642,21 @@ pub fn pass(
     let (image, image_length) = (image.as_mut_ptr(), image.len());
     let (journal, journal_length) = (journal.as_mut_ptr(), journal.len());
     ask!(desk_pass(*code, image, image_length, start, end, journal, journal_length, used, stamp))
+}
+
+/// [`pass`] by the quick engine: the same answer, image and journal, whatever is asked.
+pub fn quick_pass(
+    code: &Code,
+    image: &mut [u8],
+    start: usize,
+    end: usize,
+    journal: &mut [u8],
+    used: usize,
+    stamp: u32,
+) -> PassAnswer {
+    let (image, image_length) = (image.as_mut_ptr(), image.len());
+    let (journal, journal_length) = (journal.as_mut_ptr(), journal.len());
+    ask!(desk_quick_pass(*code, image, image_length, start, end, journal, journal_length, used, stamp))
 }
 
 /// From the last of the `used` entries of the journal to the first, gives a record that holds an entry's bytes as left its
@@ -702,6 +761,21 @@ pub fn wide_pass(
     ask!(desk_wide_pass(*code, image, image_length, start, end, journal, journal_length, used, stamp))
 }
 
+/// [`wide_pass`] by the quick engine.
+pub fn wide_quick_pass(
+    code: &WideCode,
+    image: &mut [u8],
+    start: usize,
+    end: usize,
+    journal: &mut [u8],
+    used: usize,
+    stamp: u32,
+) -> PassAnswer {
+    let (image, image_length) = (image.as_mut_ptr(), image.len());
+    let (journal, journal_length) = (journal.as_mut_ptr(), journal.len());
+    ask!(desk_wide_quick_pass(*code, image, image_length, start, end, journal, journal_length, used, stamp))
+}
+
 /// [`put_back`] of the wide edition.
 pub fn wide_put_back(image: &mut [u8], journal: &[u8], used: usize) -> PutBack {
     ask!(desk_wide_put_back(image.as_mut_ptr(), image.len(), journal.as_ptr(), journal.len(), used))
@@ -762,6 +836,21 @@ pub fn rows_pass(
     ask!(desk_rows_pass(*code, image, image_length, start, end, journal, journal_length, used, stamp))
 }
 
+/// [`rows_pass`] by the quick engine.
+pub fn rows_quick_pass(
+    code: &RowCode,
+    image: &mut [u8],
+    start: usize,
+    end: usize,
+    journal: &mut [u8],
+    used: usize,
+    stamp: u32,
+) -> PassAnswer {
+    let (image, image_length) = (image.as_mut_ptr(), image.len());
+    let (journal, journal_length) = (journal.as_mut_ptr(), journal.len());
+    ask!(desk_rows_quick_pass(*code, image, image_length, start, end, journal, journal_length, used, stamp))
+}
+
 /// [`wide_judge`] of a code with a set of rows; refuses with 1, 2, 3, 20 and 21.
 pub fn wide_rows_judge(code: &WideRowCode) -> Judgement {
     ask!(desk_wide_rows_judge(*code))
@@ -805,6 +894,21 @@ pub fn wide_rows_pass(
     let (image, image_length) = (image.as_mut_ptr(), image.len());
     let (journal, journal_length) = (journal.as_mut_ptr(), journal.len());
     ask!(desk_wide_rows_pass(*code, image, image_length, start, end, journal, journal_length, used, stamp))
+}
+
+/// [`wide_rows_pass`] by the quick engine.
+pub fn wide_rows_quick_pass(
+    code: &WideRowCode,
+    image: &mut [u8],
+    start: usize,
+    end: usize,
+    journal: &mut [u8],
+    used: usize,
+    stamp: u32,
+) -> PassAnswer {
+    let (image, image_length) = (image.as_mut_ptr(), image.len());
+    let (journal, journal_length) = (journal.as_mut_ptr(), journal.len());
+    ask!(desk_wide_rows_quick_pass(*code, image, image_length, start, end, journal, journal_length, used, stamp))
 }
 
 /// [`recover`] under a code with a set of rows.

@@ -175,6 +175,35 @@ impl RowCode {
         done(answer.number, answer.told, Passed { used: answer.used, tally: answer.tally })
     }
 
+    /// The same as [`RowCode::pass`] by the quick engine: the same answer, image and journal, whatever is asked.
+    ///
+    /// ```
+    /// use desk::{RowCode, ENTRY, RECORD};
+    ///
+    /// let code = RowCode::new(&[28, 14, 22, 26, 29, 3, 5, 9, 17, 2, 4, 8, 16], 5, 30)?;
+    /// let mut image = [0; 100 * RECORD];
+    /// image[RECORD] = 1;
+    /// let mut quickly = image;
+    /// let (mut journal, mut entries) = ([0; ENTRY], [0; ENTRY]);
+    ///
+    /// let passed = code.pass(&mut image, 0..100, &mut journal, 0, 7)?;
+    /// assert_eq!(code.quick_pass(&mut quickly, 0..100, &mut entries, 0, 7)?, passed);
+    /// assert_eq!((quickly, entries), (image, journal));
+    /// assert_eq!((passed.tally.clean, passed.tally.data), (99, 1));
+    /// # Ok::<(), desk::Refusal>(())
+    /// ```
+    pub fn quick_pass(
+        &self,
+        image: &mut [u8],
+        run: Range<usize>,
+        journal: &mut [u8],
+        used: usize,
+        stamp: u32,
+    ) -> Result<Passed, Refusal> {
+        let answer = ffi::rows_quick_pass(self, image, run.start, run.end, journal, used, stamp);
+        done(answer.number, answer.told, Passed { used: answer.used, tally: answer.tally })
+    }
+
     /// The code word that a word as read was, where some of its places are known to be bad; as
     /// [`Code::recover`](crate::Code::recover).
     ///
@@ -376,6 +405,35 @@ impl WideRowCode {
         stamp: u32,
     ) -> Result<Passed, Refusal> {
         let answer = ffi::wide_rows_pass(self, image, run.start, run.end, journal, used, stamp);
+        done(answer.number, answer.told, Passed { used: answer.used, tally: answer.tally })
+    }
+
+    /// The same as [`WideRowCode::pass`] by the quick engine: the same answer, image and journal, whatever is asked.
+    ///
+    /// ```
+    /// use desk::{WideRowCode, WIDE_ENTRY, WIDE_RECORD};
+    ///
+    /// let code = WideRowCode::new(&[28, 14, 22, 26, 29, 3, 5, 9, 17, 2, 4, 8, 16], 5, 30)?;
+    /// let mut image = [0; 100 * WIDE_RECORD];
+    /// image[WIDE_RECORD] = 1;
+    /// let mut quickly = image;
+    /// let (mut journal, mut entries) = ([0; WIDE_ENTRY], [0; WIDE_ENTRY]);
+    ///
+    /// let passed = code.pass(&mut image, 0..100, &mut journal, 0, 7)?;
+    /// assert_eq!(code.quick_pass(&mut quickly, 0..100, &mut entries, 0, 7)?, passed);
+    /// assert_eq!((quickly, entries), (image, journal));
+    /// assert_eq!((passed.tally.clean, passed.tally.data), (99, 1));
+    /// # Ok::<(), desk::Refusal>(())
+    /// ```
+    pub fn quick_pass(
+        &self,
+        image: &mut [u8],
+        run: Range<usize>,
+        journal: &mut [u8],
+        used: usize,
+        stamp: u32,
+    ) -> Result<Passed, Refusal> {
+        let answer = ffi::wide_rows_quick_pass(self, image, run.start, run.end, journal, used, stamp);
         done(answer.number, answer.told, Passed { used: answer.used, tally: answer.tally })
     }
 

@@ -226,6 +226,36 @@ impl WideCode {
         let answer = ffi::wide_pass(self, image, run.start, run.end, journal, used, stamp);
         done(answer.number, answer.told, Passed { used: answer.used, tally: answer.tally })
     }
+
+    /// The same as [`WideCode::pass`] by the quick engine: the same answer, image and journal, whatever is asked.
+    ///
+    /// ```
+    /// use desk::{WideCode, WIDE_ENTRY, WIDE_RECORD};
+    ///
+    /// let code = WideCode::made(128, 9)?;
+    /// let mut image = [0; 100 * WIDE_RECORD];
+    /// image[WIDE_RECORD + 15] = 0x80;
+    /// let mut quickly = image;
+    /// let (mut journal, mut entries) = ([0; WIDE_ENTRY], [0; WIDE_ENTRY]);
+    ///
+    /// let passed = code.pass(&mut image, 0..100, &mut journal, 0, 7)?;
+    /// assert_eq!(code.quick_pass(&mut quickly, 0..100, &mut entries, 0, 7)?, passed);
+    /// assert_eq!((quickly, entries), (image, journal));
+    /// assert_eq!((passed.tally.clean, passed.tally.data), (99, 1));
+    /// # Ok::<(), desk::Refusal>(())
+    /// ```
+    pub fn quick_pass(
+        &self,
+        image: &mut [u8],
+        run: Range<usize>,
+        journal: &mut [u8],
+        used: usize,
+        stamp: u32,
+    ) -> Result<Passed, Refusal> {
+        let answer = ffi::wide_quick_pass(self, image, run.start, run.end, journal, used, stamp);
+        done(answer.number, answer.told, Passed { used: answer.used, tally: answer.tally })
+    }
+
     /// The code word that a word as read was, where some of its places are known to be bad, as
     /// [`Code::recover`](crate::Code::recover) finds it.
     ///

@@ -114,15 +114,17 @@ fn a_pass() {
 
 #[test]
 fn passes_follow_one_another_in_one_journal() {
-    let (mut image, mut journal) = (every_verdict(), vec![0xEE; 21 * ENTRY + 5]);
-    let first = PassAnswer { number: 0, told: 0, used: 9, tally: tally([1, 2, 3, 4, 0, 0]) };
-    assert_eq!(pass(&sample(), &mut image, 0, 10, &mut journal, 0, 7), first);
-    let before = journal.clone();
-    let second = PassAnswer { number: 0, told: 0, used: 20, tally: tally([0, 0, 0, 0, 5, 6]) };
-    assert_eq!(pass(&sample(), &mut image, 10, 21, &mut journal, first.used, u32::MAX), second);
-    assert_eq!(journal[..9 * ENTRY], before[..9 * ENTRY]);
-    assert_eq!(journal[9 * ENTRY..][..11], [255, 255, 255, 255, 10, 0, 4, 255, 7, 0, 0xA6]);
-    assert_eq!(journal[20 * ENTRY..], [0xEE; ENTRY + 5]);
+    for pass in [pass, quick_pass] {
+        let (mut image, mut journal) = (every_verdict(), vec![0xEE; 21 * ENTRY + 5]);
+        let first = PassAnswer { number: 0, told: 0, used: 9, tally: tally([1, 2, 3, 4, 0, 0]) };
+        assert_eq!(pass(&sample(), &mut image, 0, 10, &mut journal, 0, 7), first);
+        let before = journal.clone();
+        let second = PassAnswer { number: 0, told: 0, used: 20, tally: tally([0, 0, 0, 0, 5, 6]) };
+        assert_eq!(pass(&sample(), &mut image, 10, 21, &mut journal, first.used, u32::MAX), second);
+        assert_eq!(journal[..9 * ENTRY], before[..9 * ENTRY]);
+        assert_eq!(journal[9 * ENTRY..][..11], [255, 255, 255, 255, 10, 0, 4, 255, 7, 0, 0xA6]);
+        assert_eq!(journal[20 * ENTRY..], [0xEE; ENTRY + 5]);
+    }
 }
 
 /// An entry of this record with a head that is no pass's.

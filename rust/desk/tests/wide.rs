@@ -111,17 +111,25 @@ fn the_longest_list() {
 }
 
 #[test]
-fn a_pass_over_records_of_18_bytes() {
+fn a_pass_over_records_of_18_bytes_by_both_engines() {
+    for pass in [wide_pass, wide_quick_pass] {
+        a_pass_by(pass);
+    }
+}
+
+type WidePass = fn(&WideCode, &mut [u8], usize, usize, &mut [u8], usize, u32) -> PassAnswer;
+
+fn a_pass_by(pass: WidePass) {
     let code = wide_make(120, 8).code;
     let words = [(0, 0), (1 << 119, 0), (0, 128), (3 << 63, 0), (1 << 120, 0)];
     let mut image: Vec<u8> = words.iter().flat_map(|&(data, check)| record(data, check)).collect();
     let before = image.clone();
     let mut journal = vec![0xEE; 5 * WIDE_ENTRY + 7];
-    let short = wide_pass(&code, &mut image, 0, 5, &mut journal[..4 * WIDE_ENTRY - 1], 0, 9);
+    let short = pass(&code, &mut image, 0, 5, &mut journal[..4 * WIDE_ENTRY - 1], 0, 9);
     assert_eq!(short, PassAnswer { number: 13, told: 4, ..PassAnswer::default() });
     assert_eq!((&image, journal.iter().all(|&byte| byte == 0xEE)), (&before, true));
 
-    let answer = wide_pass(&code, &mut image, 0, 5, &mut journal, 0, 9);
+    let answer = pass(&code, &mut image, 0, 5, &mut journal, 0, 9);
     let tally = Tally { clean: 1, data: 1, check: 1, even: 1, odd: 0, stray: 1 };
     assert_eq!(answer, PassAnswer { number: 0, told: 0, used: 4, tally });
     assert_eq!(image, [record(0, 0).repeat(3), record(3 << 63, 0), record(1 << 120, 0)].concat());
@@ -140,8 +148,10 @@ fn a_pass_over_records_of_18_bytes() {
 fn images_of_3640_records_and_one_more() {
     let mut image = vec![0; WIDE_IMAGE + WIDE_RECORD];
     let tally = Tally { clean: 3640, ..Tally::default() };
-    let done = wide_pass(&widest(), &mut image[..WIDE_IMAGE], 0, 3640, &mut [], 0, 0);
-    assert_eq!(done, PassAnswer { tally, ..PassAnswer::default() });
+    for pass in [wide_pass, wide_quick_pass] {
+        let done = pass(&widest(), &mut image[..WIDE_IMAGE], 0, 3640, &mut [], 0, 0);
+        assert_eq!(done, PassAnswer { tally, ..PassAnswer::default() });
+    }
     for length in [WIDE_IMAGE + WIDE_RECORD, WIDE_IMAGE + 1, WIDE_IMAGE - 1, 10, 20, 30, 1] {
         let refused = wide_pass(&widest(), &mut image[..length], 0, 0, &mut [], 0, 0);
         assert_eq!(refused, PassAnswer { number: 12, ..PassAnswer::default() });

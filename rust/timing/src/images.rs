@@ -1,6 +1,6 @@
-//! The codes and the images that are timed: the same at every run.
+//! The images that are timed: the same at every run.
 
-use desk::{Code, IMAGE, RECORD};
+use crate::editions::{Data, Edition};
 
 /// A small deterministic source of numbers (xorshift).
 struct Numbers(u64);
@@ -16,18 +16,6 @@ impl Numbers {
     fn below(&mut self, end: usize) -> usize {
         (self.draw() % end as u64) as usize
     }
-}
-
-/// The sample code of document 01.
-pub fn sample() -> Code {
-    Code::new(&[28, 26, 25, 22, 21, 19, 14, 13], 5).expect("the sample is a code")
-}
-
-/// 64 data bits and 8 check bits: all columns with three ones, then eight with five.
-pub fn full() -> Code {
-    let with = |ones: u32| (0..256u16).filter(move |column| column.count_ones() == ones);
-    let columns: Vec<u16> = with(3).chain(with(5)).take(64).collect();
-    Code::new(&columns, 8).expect("different odd columns are a code")
 }
 
 /// How many records are damaged: each that is has one flip or two, at places drawn from all n.
@@ -53,18 +41,21 @@ impl Damage {
 /// Images of so many records each, together about as many as the longest image has.
 ///
 /// Different ones, lest the processor learn a short image by heart.
-pub fn images(code: &Code, records: usize, damage: Damage) -> Vec<Vec<u8>> {
+pub fn images<E: Edition>(code: &E::Code, records: usize, damage: Damage) -> Vec<Vec<u8>> {
     let mut numbers = Numbers(88_172_645_463_325_252);
-    (0..IMAGE / RECORD / records).map(|_| image(code, records, damage, &mut numbers)).collect()
+    (0..E::IMAGE / E::RECORD / records).map(|_| image::<E>(code, records, damage, &mut numbers)).collect()
 }
 
 /// An image of random data.
-fn image(code: &Code, records: usize, damage: Damage, numbers: &mut Numbers) -> Vec<u8> {
-    let n = code.k + code.r;
-    let mut image = Vec::with_capacity(RECORD * records);
-    for _ in 0..records {
-        let mut data = numbers.draw() >> (64 - code.k);
-        let mut check = code.write(data).expect("no bit is stray");
+fn image<E: Edition>(code: &E::Code, records: usize, damage: Damage, numbers: &mut Numbers) -> Vec<u8> {
+    let (k, n) = (E::k(code), E::k(code) + E::r(code));
+    let mut image = vec![0; E::RECORD * records];
+    for record in image.chunks_exact_mut(E::RECORD) {
+        for byte in &mut record[..E::Data::BYTES] {
+            *byte = numbers.below(256) as u8;
+        }
+        let mut data = E::Data::read(record) >> (8 * E::Data::BYTES - k);
+        let mut check = E::check_bits(code, data);
         let is_damaged = match damage {
             Damage::None => false,
             Damage::Tenth => numbers.below(10) == 0,
@@ -74,14 +65,14 @@ fn image(code: &Code, records: usize, damage: Damage, numbers: &mut Numbers) -> 
         let first = numbers.below(n);
         let second = (first + 1 + numbers.below(n - 1)) % n;
         for place in [first, second].into_iter().take(flips) {
-            if place < code.k {
-                data ^= 1 << place;
+            if place < k {
+                data = data ^ E::Data::ONE << place;
             } else {
-                check ^= 1 << (place - code.k);
+                check ^= 1 << (place - k);
             }
         }
-        image.extend(data.to_le_bytes());
-        image.extend(check.to_le_bytes());
+        data.put(record);
+        record[E::Data::BYTES..].copy_from_slice(&check.to_le_bytes());
     }
     image
 }

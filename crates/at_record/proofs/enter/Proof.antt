@@ -1,4 +1,4 @@
--- `at_record::enter` meets its contract: head, bytes as read, then the record is mended, then bytes as left. Assumes nothing.
+-- `at_record::enter` meets its contract: head, bytes as read, bytes as left, then the record is mended. Assumes nothing.
 use mathlib.Core.Path.{ap, _∙_}
 use mathlib.Core.List.{_++_}
 use Prim.Native.Nat.{_≤_}
@@ -58,20 +58,23 @@ part-put-bytes-end c = search needs
 put-bytes-requires : tie.Need-put-bytes-requires
 put-bytes-requires c κs = search needs
 
+sub-put-left : tie.Need-sub-put-left
+sub-put-left c = search needs
+
+part-put-left-start : tie.Need-part-put-left-start
+part-put-left-start c = search needs
+
+part-put-left-end : tie.Need-part-put-left-end
+part-put-left-end c = search needs
+
+put-left-requires : tie.Need-put-left-requires
+put-left-requires c κs =
+    let b = c .before .before .before .before in
+    let s = b .before .before .before .before .before .before .before .before .before .before .before .before in
+    (search needs, (search needs, (s .pre .1 .1 .0, s .pre .1 .1 .1)))
+
 mend-requires : tie.Need-mend-requires
 mend-requires c κs = search needs
-
-sub-put-bytes-2 : tie.Need-sub-put-bytes-2
-sub-put-bytes-2 c = search needs
-
-part-put-bytes-start-2 : tie.Need-part-put-bytes-start-2
-part-put-bytes-start-2 c = search needs
-
-part-put-bytes-end-2 : tie.Need-part-put-bytes-end-2
-part-put-bytes-end-2 c = search needs
-
-put-bytes-requires-2 : tie.Need-put-bytes-requires-2
-put-bytes-requires-2 c κs = search needs
 
 same-length : tie.Need-same-length
 same-length c = search needs
@@ -81,19 +84,18 @@ same-length-2 c = search needs
 
 returns : tie.Need-returns
 returns c =
-    let q = c .before .before in
-    let m = q .before .before .before .before .before in
-    let b = m .before .before .before .before in
+    let m = c .before .before in
+    let q = m .before .before .before .before in
+    let b = q .before .before .before .before .before in
     let h = b .before .before .before .before .before in
     let f = h .before .before .before .before in
     let s = f .before .before .before in
     let a = s .args in
-    let head = h .put-head .ensures ∙ ap (λ x. headBytes (a .stamp) (a .n) (x .verdict) (x .place) (a .sight .syndrome)) (f .finding-of .ensures) in
-    let left = q .put-bytes2 .ensures ∙ m .mend .ensures in (
+    let head = h .put-head .ensures ∙ ap (λ x. headBytes (a .stamp) (a .n) (x .verdict) (x .place) (a .sight .syndrome)) (f .finding-of .ensures) in (
       m .mend .ensures,
-      three-parts (a .entry .now) (h .put-head .last .0) (b .put-bytes .last .0) (q .put-bytes2 .last .0) headSize (length (a .rec .now))
+      three-parts (a .entry .now) (h .put-head .last .0) (b .put-bytes .last .0) (q .put-left .last .0) headSize (length (a .rec .now))
           (ap length head ∙ length-head _ _ _ _ _) (ap length (b .put-bytes .ensures)) (search needs) (search needs)
-          ∙ (λ i. head i ++ (b .put-bytes .ensures i ++ left i)),
+          ∙ (λ i. head i ++ (b .put-bytes .ensures i ++ q .put-left .ensures i)),
     )
 
 pub enter-spec : {M : Type 1} → statement M
@@ -113,11 +115,11 @@ enter-spec =
     part-put-bytes-start
     part-put-bytes-end
     put-bytes-requires
+    sub-put-left
+    part-put-left-start
+    part-put-left-end
+    put-left-requires
     mend-requires
-    sub-put-bytes-2
-    part-put-bytes-start-2
-    part-put-bytes-end-2
-    put-bytes-requires-2
     same-length
     same-length-2
     returns)

@@ -21,10 +21,10 @@ limits : (c : tie.After-enum-told) → let a = c .before .before .before .before
 limits c =
     let a = c .before .before .before .before .args in
     rows-rule (length (a .places .now) - 16) (a .places .now) (a .n) (a .r) (a .rows) .0
-    (sym (c .before .before .judge-in .ensures) ∙ c .enum-told .given .1) .limits
+    (sym (c .before .before .judge-rows-in .ensures) ∙ c .enum-told .given .1) .limits
 
-judge-in-requires : tie.Need-judge-in-requires
-judge-in-requires c κs = search needs
+judge-rows-in-requires : tie.Need-judge-rows-in-requires
+judge-rows-in-requires c κs = search needs
 
 enum-told : tie.Need-enum-told
 enum-told c = search needs
@@ -42,8 +42,8 @@ returns c =
     let m = take (a .n) (a .places .now) in
     c .refuse .ensures
     ∙ ap closed (c .before .standing-of .ensures)
-    ∙ closes (j .judge-in .result) m (a .n - a .r) (a .rows) (c .before .before .match .keys2)
-    ∙ ap (λ v. openedBy (standingOfRows v) m (a .n - a .r) (a .rows)) (j .judge-in .ensures)
+    ∙ closes (j .judge-rows-in .result) m (a .n - a .r) (a .rows) (c .before .before .match .keys2)
+    ∙ ap (λ v. openedBy (standingOfRows v) m (a .n - a .r) (a .rows)) (j .judge-rows-in .ensures)
 
 slice-aggregate-lay-out : tie.Need-slice-aggregate-lay-out
 slice-aggregate-lay-out c =
@@ -68,13 +68,13 @@ returns-2 c =
     let m = take (a .n) (a .places .now) in
     c .lay-out .ensures
     ∙ ap (λ (cs : List ℕ). laidOut cs (a .n - a .r) (a .rows)) (no-singles m)
-    ∙ sym (ap (λ v. openedBy (standingOfRows v) m (a .n - a .r) (a .rows)) (sym (j .judge-in .ensures) ∙ t .enum-told .given .1))
+    ∙ sym (ap (λ v. openedBy (standingOfRows v) m (a .n - a .r) (a .rows)) (sym (j .judge-rows-in .ensures) ∙ t .enum-told .given .1))
 
 pub open-in-spec : {M : Type 1} → statement M
 open-in-spec =
     tie.close
     (tie.spec
-    judge-in-requires
+    judge-rows-in-requires
     enum-told
     standing-of-requires
     refuse-requires

@@ -1,0 +1,2 @@
+pub mod Mixed
+pub mod Walked

@@ -1,0 +1,3 @@
+pub mod Looked
+pub mod Above
+pub mod Alike
