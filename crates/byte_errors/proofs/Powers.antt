@@ -10,7 +10,8 @@ use lib.Bits.{bitXor, xor-lt}
 use lib.Dec.{eqb, lit<}
 use borrow.Author.Tests.{eqb-true, ne-eqb}
 use Rattle.parity.proofs.Xor.{xor-assoc, xor-undo, eq-of-xor-zero, xor-zero-of-eq}
-use Rattle.parity.proofs.Tested.{both, allBelow, all-at}
+use Rattle.parity.specs.Below.{allBelow}
+use Rattle.parity.proofs.Tested.{both, all-at}
 use Rattle.byte_parts.specs.Vectors.{timesT, powerT}
 use Rattle.byte_parts.proofs.Vectors.{power-lt}
 

@@ -15,7 +15,8 @@ use lib.Pow.{pow-mono}
 use Rattle.parity.specs.Odd.{oddOnes, oddIn, isOdd, allRows}
 use Rattle.parity.proofs.Ones.{zero-ones}
 use Rattle.parity.proofs.Rows.{odd-all}
-use Rattle.parity.proofs.Tested.{allBelow, all-at}
+use Rattle.parity.specs.Below.{allBelow}
+use Rattle.parity.proofs.Tested.{all-at}
 use Rattle.columns.specs.Mix.{column, placeIn}
 use Rattle.columns.proofs.Places.{place-first}
 use Rattle.judge.specs.declared.Judged.the-variants as judged

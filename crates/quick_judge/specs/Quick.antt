@@ -7,7 +7,7 @@ use lib.Count.{ones}
 use lib.Dec.{eqb, ltb, leb}
 use lib.ListN.{length, take, drop}
 use Rattle.parity.specs.Odd.{isOdd}
-use Rattle.parity.proofs.Tested.{allBelow}
+use Rattle.parity.specs.Below.{allBelow}
 use Rattle.columns.specs.Mix.{column, placeIn}
 use Rattle.row_judge.specs.Judge.{noSet, notTriangular}
 

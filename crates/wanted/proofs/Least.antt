@@ -5,7 +5,8 @@ use Prim.Native.Nat.{ℕ, zero, suc, _+_, _-_, _^_, _≤_, _<_}
 use native.Mathlib.Omega.{arith}
 use borrow.Author.Tests.{leb-true, ltb-true, lt-leb}
 use lib.Dec.{ltb, leb}
-use Rattle.parity.proofs.Tested.{allBelow, both, all-at}
+use Rattle.parity.specs.Below.{allBelow}
+use Rattle.parity.proofs.Tested.{both, all-at}
 use Rattle.wanted.specs.Wanted.{bandOf}
 
 bands-fit : allBelow (λ k. leb 3 (bandOf k) && (leb (bandOf k) 9 && leb (k + bandOf k) (2 ^ (bandOf k - 1)))) 129 ≡ true

@@ -4,7 +4,7 @@ use mathlib.Core.Bool.{_&&_}
 use Prim.Native.Nat.{_-_, _≤_}
 use native.Mathlib.Omega.{arith}
 use lib.ListN.{length}
-use Rattle.parity.proofs.Tested.{allBelow}
+use Rattle.parity.specs.Below.{allBelow}
 use Rattle.quick_judge.specs.Quick.{settledAt}
 use Rattle.quick_judge.proofs.Accepts.{all-step}
 use borrow.Author.Needs.{needs}
