@@ -78,11 +78,11 @@ clean-as-read = words.clean-as-read
 pub verdicts-exactly : demands.VerdictsExactly
 verdicts-exactly = words.verdicts-exactly
 
-pub syndrome-told : demands.SyndromeTold
-syndrome-told = words.syndrome-told
-
 pub place-named : demands.PlaceNamed
 place-named = words.place-named
+
+pub syndrome-told : demands.SyndromeTold
+syndrome-told = words.syndrome-told
 
 pub one-flip : demands.OneFlip
 one-flip = words.one-flip
@@ -324,6 +324,9 @@ finding-refuses = bad.finding-refuses
 pub found-exactly : demands.FoundExactly
 found-exactly = bad.found-exactly
 
+pub found-in-parts : demands.FoundInParts
+found-in-parts = bad.found-in-parts
+
 pub stuck-found : demands.StuckFound
 stuck-found = bad.stuck-found
 
@@ -346,6 +349,9 @@ wide-lists = editions.wide-lists
 
 pub wide-check-bits : of-editions.WideCheckBits
 wide-check-bits = editions.wide-check-bits
+
+pub ten-bytes-answers : of-editions.TenBytesAnswers
+ten-bytes-answers = editions.ten-bytes-answers
 
 pub wide-answers : of-editions.WideAnswers
 wide-answers = editions.wide-answers

@@ -8,18 +8,18 @@ use Rattle.columns.specs.Bits.{bitAt}
 use Rattle.code.specs.declared.Code.{Code}
 use Rattle.code.specs.Opened.{openedOf}
 use Rattle.word.specs.declared.Word.{Word}
-use Rattle.word.specs.Word.{wordOf, checkOf}
+use Rattle.word.specs.Word.{wordOf, dataOf, checkOf}
 use Rattle.mending.proofs.Parts.{word-of-parts}
 use Rattle.recover.specs.Recover.{recoverOf}
-use Rattle.finder.specs.Finder.{agreeing, findOf}
-use Rattle.finder.specs.declared.Found.{Found}
+use Rattle.finder.specs.Finder.{findOf}
 use Rattle.editions.specs.Given as any
 use Rattle.editions.proofs.OfBad as of-any
 use Rattle.desk.specs.declared.ReadWord.{ReadWord}
 use Rattle.desk.specs.declared.Recovered.{Recovered}
+use Rattle.desk.specs.declared.BadPlaces.{BadPlaces}
 use Rattle.desk.specs.Answers.{wordWith, recoveredBy, badPlacesBy}
-use Rattle.demands.specs.Definitions.{Accepted, Unstrayed, placesOf}
-use Rattle.demands.specs.Bad.{recover, givenBack, Recoverable, foundIn}
+use Rattle.demands.specs.Definitions.{Accepted, Unstrayed}
+use Rattle.demands.specs.Bad.{recover, givenBack, Recoverable, findBad, foundIn}
 use Rattle.demands.specs.Demands as demands
 use Rattle.demands.specs.Editions.{narrow}
 use Rattle.demands.proofs.Narrow.{accepted, strays, fits, low-is, parts-are, read-is, verdict-is, clean, clean-back}
@@ -122,25 +122,33 @@ finding-refuses code low high low′ high′ =
       λ a l h l′ h′. x .2 (accepted code a) (fits code a low high l h) (fits code a low′ high′ l′ h′),
     )
 
--- the word of ones in the answer is the same
-found-same : (code : Code) (acc : Accepted code) (a b : ℕ) → Unstrayed code a → Unstrayed code b
-    → foundIn code a b ≡ any.foundIn (narrow code) a b
-found-same code acc a b ha hb =
-    let k = code .k in
-    let given = narrow code in
-    let both = accepted code acc in
-    let w = agreeing (any.placesOf given) a b in
-    let e : findOf (openedOf code) (wordWith _ _) (wordWith _ _) ≡ record { number = 0; told = 0; word = _ } =
-    ap₂ (findOf (openedOf code)) (parts-are code acc a) (parts-are code acc b) ∙ of-any.find-is given both a b ha hb in
-    ap₂ (wordOf k) (ap (λ (f : Found). f .word .low) e ∙ low-is code acc w) (ap (λ (f : Found). f .word .check) e)
-    ∙ word-of-parts k w
-    ∙ sym (of-any.found-is given both a b ha hb)
+-- the word of ones in the answer, and its parts, are the same
+module _ (code : Code) (acc : Accepted code) (a b : ℕ) (ha : Unstrayed code a) (hb : Unstrayed code b) where
+  find-is : findBad code a b ≡ badPlacesBy (any.findBad (narrow code) a b)
+  find-is = ap₂ (λ (x y : Word). badPlacesBy (findOf (openedOf code) x y)) (parts-are code acc a) (parts-are code acc b)
+
+  in-parts : (findBad code a b .«data» ≡ dataOf (code .k) (any.foundIn (narrow code) a b))
+      × (findBad code a b .check ≡ checkOf (code .k) (any.foundIn (narrow code) a b))
+  in-parts =
+      let e = of-any.found-in-parts (narrow code) (accepted code acc) a b ha hb in (
+        ap (λ (f : BadPlaces). f .«data») find-is ∙ ap (λ (x : Word). x .low) e ∙ low-is code acc _,
+        ap (λ (f : BadPlaces). f .check) find-is ∙ ap (λ (x : Word). x .check) e,
+      )
+
+  found-same : foundIn code a b ≡ any.foundIn (narrow code) a b
+  found-same = ap₂ (wordOf (code .k)) (in-parts .0) (in-parts .1) ∙ word-of-parts (code .k) (any.foundIn (narrow code) a b)
 
 pub found-exactly : demands.FoundExactly
 found-exactly code acc a b ha hb p =
     let e = found-same code acc a b ha hb in
     let f = of-any.found-exactly (narrow code) (accepted code acc) a b ha hb p in
     (λ x. f .0 (sym (ap (λ (w : ℕ). bitAt w p) e) ∙ x), λ x. ap (λ (w : ℕ). bitAt w p) e ∙ f .1 x)
+
+pub found-in-parts : demands.FoundInParts
+found-in-parts code acc a b ha hb =
+    let e = in-parts code acc a b ha hb in
+    let f = sym (found-same code acc a b ha hb) in
+    (e .0 ∙ ap (dataOf (code .k)) f, e .1 ∙ ap (checkOf (code .k)) f)
 
 pub stuck-found : demands.StuckFound
 stuck-found code acc stuck held w a b fit x y =

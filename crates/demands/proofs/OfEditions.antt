@@ -7,7 +7,7 @@ use borrow.Author.Tests.{le-leb, lt-leb}
 use lib.Dec.{leb}
 use Rattle.wanted.specs.Wanted.{bandOf}
 use Rattle.wanted.proofs.Bands.{wanted-inside}
-use Rattle.make.specs.Made.{makeNumber, makingIn, wideMadeWith}
+use Rattle.make.specs.Made.{makeNumber, makingIn, makingBy, wideMadeWith}
 use Rattle.editions.specs.Given.{Edition, Known, tenBytes, eighteenBytes, Given, HsiaoCode, given, madeWith}
 use Rattle.editions.proofs.OfRecords as records
 use Rattle.editions.proofs.OfJudge as judge
@@ -21,7 +21,7 @@ use Rattle.editions.proofs.OfOrders as orders
 use Rattle.editions.proofs.OfPutBack as back
 use Rattle.editions.proofs.OfBad as bad
 use Rattle.demands.specs.Editions as demands
-use Rattle.demands.specs.Editions.{PromisedOfAny, Promised, wideMade}
+use Rattle.demands.specs.Editions.{PromisedOfAny, Promised, narrowMade, wideMade}
 
 pub ten-known : Known tenBytes
 ten-known = record { most = omega arith; halves = omega arith; held = refl }
@@ -77,6 +77,7 @@ of-any given = record {
   recovered-any-order = λ code. bad.recovered-any-order (given code);
   finding-refuses = λ code. bad.finding-refuses (given code);
   found-exactly = λ code. bad.found-exactly (given code);
+  found-in-parts = λ code. bad.found-in-parts (given code);
   stuck-found = λ code. bad.stuck-found (given code);
   found-recovered = λ code. bad.found-recovered (given code);
   writing-solves = λ code. words.writing-solves (given code);
@@ -148,14 +149,34 @@ wide-check-bits = (
 
 -- ---- the exported answers
 
-made-same : (n k r : ℕ) → makingIn (madeWith eighteenBytes) 128 n k r ≡ wideMade (makingIn wideMadeWith 128 n k r)
-made-same zero k r = refl
-made-same (suc n) k r = refl
+ten-made-same : (n k r : ℕ) → makingIn (madeWith tenBytes) 64 n k r ≡ narrowMade (makingBy n k r)
+ten-made-same zero k r = refl
+ten-made-same (suc n) k r = refl
+
+wide-made-same : (n k r : ℕ) → makingIn (madeWith eighteenBytes) 128 n k r ≡ wideMade (makingIn wideMadeWith 128 n k r)
+wide-made-same zero k r = refl
+wide-made-same (suc n) k r = refl
+
+pub ten-bytes-answers : demands.TenBytesAnswers
+ten-bytes-answers = record {
+  check-bits = λ k. refl;
+  made = λ k r. ten-made-same (makeNumber 64 k r) k r;
+  judgement = λ code. refl;
+  rows = λ code. refl;
+  written = λ code low. refl;
+  reading = λ code low check. refl;
+  explained = λ code low check limit list. refl;
+  cards = λ code b. refl;
+  put-back = λ image journal used. refl;
+  recovered = λ code low check bad. refl;
+  found = λ code low check low′ check′. refl;
+  passed = λ code p s. refl;
+}
 
 pub wide-answers : demands.WideAnswers
 wide-answers = record {
   check-bits = λ k. refl;
-  made = λ k r. made-same (makeNumber 128 k r) k r;
+  made = λ k r. wide-made-same (makeNumber 128 k r) k r;
   judgement = λ code. refl;
   rows = λ code. refl;
   written = λ code low high. refl;

@@ -1,11 +1,10 @@
 -- The demands on the maker: the promises of the ten-byte edition. Assumes nothing.
-use mathlib.Core.Path.{_≡_, refl, sym, ap, subst, _∙_}
+use mathlib.Core.Path.{_≡_, sym, ap, subst, _∙_}
 use mathlib.Core.Logic.{_↔_}
-use Prim.Native.Nat.{ℕ, zero, suc, _≤_}
+use Prim.Native.Nat.{ℕ, _≤_}
 use Rattle.code.specs.Rule.{matrixOf}
 use Rattle.balance.specs.Balance.{allOnes}
 use Rattle.make.specs.declared.Made.{Made}
-use Rattle.make.specs.Made.{makeNumber, makingIn, makingBy}
 use Rattle.editions.specs.Given.{tenBytes, HsiaoCode, given, MadeCode}
 use Rattle.editions.specs.Given as any
 use Rattle.editions.specs.Promises as promises
@@ -13,30 +12,23 @@ use Rattle.editions.proofs.OfMaking as of-any
 use Rattle.desk.specs.Answers.{madeOf}
 use Rattle.demands.specs.Making.{noCode}
 use Rattle.demands.specs.Demands as demands
-use Rattle.demands.specs.Editions.{narrowCode}
+use Rattle.demands.specs.Editions.{narrowCode, narrowMade}
 use Rattle.demands.proofs.Narrow.{accepted, accepted-back}
-use Rattle.demands.proofs.OfEditions.{ten-known}
+use Rattle.demands.proofs.OfEditions.{ten-known, ten-bytes-answers}
 
--- what is made, as it is handed about
-abbrev handed : Made → MadeCode
-handed m = record { number = m .number; code = narrowCode (m .code) }
-
+-- back to what is handed about
 abbrev handed-back : MadeCode → Made
 handed-back m = record { number = m .number; code = record { columns = m .code .columns; k = m .code .k; r = m .code .r } }
 
-made-same : (n k r : ℕ) → makingIn (any.madeWith tenBytes) 64 n k r ≡ handed (makingBy n k r)
-made-same zero k r = refl
-made-same (suc n) k r = refl
-
 module _ (k r : ℕ) where
-  made-is : any.madeOf tenBytes k r ≡ handed (madeOf k r)
-  made-is = made-same (makeNumber 64 k r) k r
+  made-is : any.madeOf tenBytes k r ≡ narrowMade (madeOf k r)
+  made-is = ten-bytes-answers .made k r
 
   number-is : any.madeOf tenBytes k r .number ≡ madeOf k r .number
   number-is = ap (λ (m : MadeCode). m .number) made-is
 
   same-refusal : (n : ℕ) {P : Type 0} → ((any.madeOf tenBytes k r ≡ any.noCode tenBytes n) ↔ P) → ((madeOf k r ≡ noCode n) ↔ P)
-  same-refusal n x = (λ e. x .0 (made-is ∙ ap handed e), λ p. ap handed-back (sym made-is ∙ x .1 p))
+  same-refusal n x = (λ e. x .0 (made-is ∙ ap narrowMade e), λ p. ap handed-back (sym made-is ∙ x .1 p))
 
   -- a fact of the code that is made
   of-made : (P : HsiaoCode → Type 0) → P (any.madeOf tenBytes k r .code) → P (narrowCode (madeOf k r .code))

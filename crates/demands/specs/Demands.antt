@@ -26,6 +26,7 @@ use Rattle.judge.specs.declared.Judged.the-variants as judged
 use Rattle.code.specs.Rule.{matrixOf}
 use Rattle.judge.specs.Rule.{Sized, Limits, SaysOfCode}
 use Rattle.balance.specs.Balance.{rowOnes, allOnes, sumℤ}
+use Rattle.word.specs.Word.{dataOf, checkOf}
 use Rattle.record.specs.Bytes.{AllBytes}
 use Rattle.record.specs.Layout.{dataSize, recordSize, entrySize, imageLimit, recordBytes, dataIn, checkIn, Entry, entryBytes, entryIn}
 use Rattle.record.specs.Run.{over}
@@ -64,7 +65,7 @@ use Rattle.demands.specs.PutBack.{answerBack, imageBack, backWith, fromL
 use Rattle.recovered.specs.Named.{Repeated, WrongPlaces}
 use Rattle.recovered.specs.Stuck.{ReadBack, complement}
 use Rattle.desk.specs.Answers.{recoveredOf, badPlacesOf}
-use Rattle.demands.specs.Bad.{recover, givenBack, refusedRecovered, Recoverable, foundIn, refusedBadPlaces}
+use Rattle.demands.specs.Bad.{recover, givenBack, refusedRecovered, Recoverable, findBad, foundIn, refusedBadPlaces}
 
 -- ---- records and entries
 
@@ -903,6 +904,13 @@ abbrev pub FoundExactly : Type 0
 FoundExactly =
     (code : Code) → Accepted code → (a b : ℕ) → Unstrayed code a → Unstrayed code b
     → (p : ℕ) → (bitAt (foundIn code a b) p ≡ 1) ↔ ((p < placesOf code) × (bitAt a p ≡ bitAt b p))
+
+-- The ones of data places stand in the data, those of check places in the check bits.
+abbrev pub FoundInParts : Type 0
+FoundInParts =
+    (code : Code) → Accepted code → (a b : ℕ) → Unstrayed code a → Unstrayed code b
+    → let w = foundIn code a b in
+    (findBad code a b .«data» ≡ dataOf (code .k) w) × (findBad code a b .check ≡ checkOf (code .k) w)
 
 -- If each place keeps what is written or is stuck, two reads after a pattern and its complement name exactly the stuck places.
 abbrev pub StuckFound : Type 0

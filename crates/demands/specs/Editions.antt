@@ -6,6 +6,7 @@ use Prim.Native.Nat.{ℕ, _/_, _≤_}
 use lib.ListN.{length}
 use Rattle.code.specs.declared.Code.{Code}
 use Rattle.code.specs.declared.WideCode.{WideCode}
+use Rattle.make.specs.declared.Made.{Made}
 use Rattle.make.specs.declared.WideMade.{WideMade}
 use Rattle.word.specs.declared.Word.{Word}
 use Rattle.word.specs.Word.{joined}
@@ -14,6 +15,8 @@ use Rattle.asked.specs.Pass.{Pass, State}
 use Rattle.editions.specs.Given.{Edition, tenBytes, eighteenBytes, Given, HsiaoCode, given, MadeCode}
 use Rattle.editions.specs.Given as of-any
 use Rattle.editions.specs.Promises as promises
+use Rattle.desk.specs.Answers.{checkBitsOf, madeOf, judgementOf, rowsOf, writtenOf, wordWith, narrowed, readOf, explainedOf, cardsOf}
+use Rattle.desk.specs.Answers.{passedOf, putBackOf, recoveredBy, recoveredOf, badPlacesBy, badPlacesOf}
 use Rattle.desk.specs.Wide.{wideCheckBitsOf, wideMadeOf, wideJudgementOf, wideRowsOf, wideWrittenOf, wideWord, wideReadOf}
 use Rattle.desk.specs.Wide.{wideExplainedOf, wideCardsOf, widePassedOf, widePutBackOf, wideRecoveredOf, wideBadPlacesOf}
 
@@ -30,6 +33,9 @@ narrow code = given (narrowCode code)
 
 abbrev pub wide : WideCode → Given
 wide code = given (wideCode code)
+
+abbrev pub narrowMade : Made → MadeCode
+narrowMade made = record { number = made .number; code = narrowCode (made .code) }
 
 abbrev pub wideMade : WideMade → MadeCode
 wideMade made = record { number = made .number; code = wideCode (made .code) }
@@ -85,6 +91,7 @@ pub record PromisedOfAny {C : Type 0} (given : C → Given) : Type 0 where
   pub recovered-any-order : (code : C) → promises.RecoveredAnyOrder (given code)
   pub finding-refuses : (code : C) → promises.FindingRefuses (given code)
   pub found-exactly : (code : C) → promises.FoundExactly (given code)
+  pub found-in-parts : (code : C) → promises.FoundInParts (given code)
   pub stuck-found : (code : C) → promises.StuckFound (given code)
   pub found-recovered : (code : C) → promises.FoundRecovered (given code)
 
@@ -145,7 +152,26 @@ WideCheckBits =
     ((k : ℕ) → 58 ≤ k → k ≤ 120 → wideCheckBitsOf k ≡ record { number = 0; bits = 8 })
     × ((k : ℕ) → 121 ≤ k → k ≤ 128 → wideCheckBitsOf k ≡ record { number = 0; bits = 9 })
 
--- The promises are about what the exported functions of the wide edition answer, question by question.
+-- The promises are about what the exported functions answer, question by question: those of the ten-byte edition, whose words have nothing
+-- in their high half.
+pub record TenBytesAnswers : Type 0 where
+  pub check-bits : (k : ℕ) → of-any.checkBitsOf tenBytes k ≡ checkBitsOf k
+  pub made : (k r : ℕ) → of-any.madeOf tenBytes k r ≡ narrowMade (madeOf k r)
+  pub judgement : (code : Code) → of-any.judgementOf (narrow code) ≡ judgementOf code
+  pub rows : (code : Code) → of-any.rowsOf (narrow code) ≡ rowsOf code
+  pub written : (code : Code) (low : ℕ) → of-any.writtenOf (narrow code) low ≡ writtenOf code low
+  pub reading : (code : Code) (low check : ℕ) → narrowed (of-any.readOf (narrow code) (wordWith low check)) ≡ readOf code low check
+  pub explained : (code : Code) (low check limit : ℕ) (list : List ℕ)
+      → of-any.explainedOf (narrow code) (wordWith low check) limit list ≡ explainedOf code low check limit list
+  pub cards : (code : Code) (b : ℕ) → of-any.cardsOf (narrow code) b ≡ cardsOf code b
+  pub put-back : (image journal : List ℕ) (used : ℕ) → of-any.putBackOf tenBytes image journal used ≡ putBackOf image journal used
+  pub recovered : (code : Code) (low check : ℕ) (bad : List ℕ)
+      → recoveredBy (of-any.recoveredOf (narrow code) (wordWith low check) bad) ≡ recoveredOf code low check bad
+  pub found : (code : Code) (low check low′ check′ : ℕ)
+      → badPlacesBy (of-any.badPlacesOf (narrow code) (wordWith low check) (wordWith low′ check′)) ≡ badPlacesOf code low check low′ check′
+  pub passed : (code : Code) (p : Pass) (s : State) → of-any.passedOf (narrow code) p s ≡ passedOf code p s
+
+-- And those of the wide edition.
 pub record WideAnswers : Type 0 where
   pub check-bits : (k : ℕ) → of-any.checkBitsOf eighteenBytes k ≡ wideCheckBitsOf k
   pub made : (k r : ℕ) → of-any.madeOf eighteenBytes k r ≡ wideMade (wideMadeOf k r)

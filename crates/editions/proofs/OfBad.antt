@@ -301,7 +301,7 @@ module _ (code : Given) (a : Accepted code) (x y : ℕ) (hx : Unstrayed code x) 
   abbrev agreed : ℕ
   agreed = agreeing (placesOf code) x y
 
-  pub find-is : findBad code x y ≡ record { number = 0; told = 0; word = inParts (code .k) agreed }
+  find-is : findBad code x y ≡ record { number = 0; told = 0; word = inParts (code .k) agreed }
   find-is =
       let k = code .k in
       let cs = matrixOf code in
@@ -310,7 +310,7 @@ module _ (code : Given) (a : Accepted code) (x y : ℕ) (hx : Unstrayed code x) 
       ∙ ap (λ (w : ℕ). record { number = 0; told = 0; word = inParts k w })
       (ap₂ (agreeing (length cs)) (number-of-parts k x) (number-of-parts k y) ∙ ap (λ (n : ℕ). agreeing n x y) (places-length code a))
 
-  pub found-is : foundIn code x y ≡ agreed
+  found-is : foundIn code x y ≡ agreed
   found-is = ap (λ (b : Found). asNumber (code .k) (b .word)) find-is ∙ number-of-parts (code .k) agreed
 
 -- a stray bit in either read
@@ -352,6 +352,10 @@ found-exactly code acc a b ha hb p =
     let e = found-is code acc a b ha hb in
     let f = finding.found-exactly (placesOf code) a b ha hb p in
     (λ x. f .0 (sym (ap (λ (w : ℕ). bitAt w p) e) ∙ x), λ x. ap (λ (w : ℕ). bitAt w p) e ∙ f .1 x)
+
+pub found-in-parts : (code : Given) → promises.FoundInParts code
+found-in-parts code acc a b ha hb =
+    ap (λ (f : Found). f .word) (find-is code acc a b ha hb) ∙ ap (inParts (code .k)) (sym (found-is code acc a b ha hb))
 
 pub stuck-found : (code : Given) → promises.StuckFound code
 stuck-found code acc stuck held w a b fits x y =

@@ -21,7 +21,7 @@ use Rattle.row_judge.specs.Rule.{SaysOfRows}
 use Rattle.families.specs.ByRows.{ByRows}
 use Rattle.balance.specs.Balance.{rowOnes, allOnes, sumℤ}
 use Rattle.word.specs.declared.Word.{Word}
-use Rattle.word.specs.Word.{wordOf, asNumber}
+use Rattle.word.specs.Word.{wordOf, asNumber, inParts}
 use Rattle.record.specs.Bytes.{AllBytes}
 use Rattle.record.specs.Layout.{recordSize, entrySize, recordBytes, dataIn, checkIn, Entry, entryBytes, entryIn}
 use Rattle.record.specs.Run.{over}
@@ -49,7 +49,7 @@ use Rattle.editions.specs.Given.{told, onlyNumber, refusedRows, refusedW
 use Rattle.editions.specs.Given.{recordOf, entryAt, room, needed, entryOf, readAt, verdictOf, placeFor, syndromeFor, InBytes}
 use Rattle.editions.specs.Given.{answerOf, imageAfter, journalAfter, Done, PassRefused, stateAfter, Stamped, Turn, turnsAfter, AllStamped}
 use Rattle.editions.specs.Given.{newEntries, countFrom, passedOf, neededForAll, RunsApart, InSomeOrder, afterAll, asItWas}
-use Rattle.editions.specs.Given.{recoveredOf, badPlacesOf, recover, givenBack, refusedRecovered, Recoverable, foundIn, refusedBadPlaces}
+use Rattle.editions.specs.Given.{recoveredOf, badPlacesOf, recover, givenBack, refusedRecovered, Recoverable, findBad, foundIn, refusedBadPlaces}
 use Rattle.editions.specs.Given.{answerBack, imageBack, backWith, fromLast, lastBack, LastMatch, StopsAt}
 
 -- ---- records and entries
@@ -775,6 +775,11 @@ abbrev pub FoundExactly : Given → Type 0
 FoundExactly code =
     Accepted code → (a b : ℕ) → Unstrayed code a → Unstrayed code b
     → (p : ℕ) → (bitAt (foundIn code a b) p ≡ 1) ↔ ((p < placesOf code) × (bitAt a p ≡ bitAt b p))
+
+-- The ones of data places stand in the data, those of check places in the check bits.
+abbrev pub FoundInParts : Given → Type 0
+FoundInParts code =
+    Accepted code → (a b : ℕ) → Unstrayed code a → Unstrayed code b → findBad code a b .word ≡ inParts (code .k) (foundIn code a b)
 
 -- If each place keeps what is written or is stuck, two reads after a pattern and its complement name exactly the stuck places.
 abbrev pub StuckFound : Given → Type 0
