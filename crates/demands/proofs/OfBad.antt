@@ -50,13 +50,13 @@ module _ (code : Code) (a : Accepted code) where
   near-back w bad u x = record { fits = x .fits; clean = clean-back code a u (x .clean); near = x .near }
 
 pub recovering-refuses : demands.RecoveringRefuses
-recovering-refuses code low high bad =
-    let x = of-any.recovering-refuses (narrow code) (wordWith low high) bad in (
+recovering-refuses code low check bad =
+    let x = of-any.recovering-refuses (narrow code) (wordWith low check) bad in (
       λ h. ap recoveredBy (x .0 h),
-      λ a h. ap recoveredBy (x .1 (accepted code a) (strays code low high h)),
-      λ a l h wrong. ap recoveredBy (x .2 (accepted code a) (fits code a low high l h) wrong),
+      λ a h. ap recoveredBy (x .1 (accepted code a) (strays code low check h)),
+      λ a l h wrong. ap recoveredBy (x .2 (accepted code a) (fits code a low check l h) wrong),
       λ a l h right.
-          ⊎-elim (λ e. inl (ap recoveredBy e)) (λ y. inr y) (x .3 (accepted code a) (fits code a low high l h) right),
+          ⊎-elim (λ e. inl (ap recoveredBy e)) (λ y. inr y) (x .3 (accepted code a) (fits code a low check l h) right),
     )
 
 pub recovered-exactly : demands.RecoveredExactly
@@ -113,13 +113,13 @@ recovered-any-order code a w fit bad other right right′ many same =
 -- ---- the finder
 
 pub finding-refuses : demands.FindingRefuses
-finding-refuses code low high low′ high′ =
-    let x = of-any.finding-refuses (narrow code) (wordWith low high) (wordWith low′ high′) in (
+finding-refuses code low check low′ check′ =
+    let x = of-any.finding-refuses (narrow code) (wordWith low check) (wordWith low′ check′) in (
       λ h. ap badPlacesBy (x .0 h),
       λ a h.
           ap badPlacesBy (x .1 (accepted code a)
-          (⊎-elim (λ y. inl (strays code low high y)) (λ y. inr (strays code low′ high′ y)) h)),
-      λ a l h l′ h′. x .2 (accepted code a) (fits code a low high l h) (fits code a low′ high′ l′ h′),
+          (⊎-elim (λ y. inl (strays code low check y)) (λ y. inr (strays code low′ check′ y)) h)),
+      λ a l h l′ h′. x .2 (accepted code a) (fits code a low check l h) (fits code a low′ check′ l′ h′),
     )
 
 -- the word of ones in the answer, and its parts, are the same

@@ -8,8 +8,8 @@ use Rattle.demands.specs.Editions.{narrow}
 use Rattle.demands.proofs.Narrow.{accepted, clean, clean-back}
 
 pub explaining-refuses : demands.ExplainingRefuses
-explaining-refuses code low high limit list =
-    let x = rw (add-zero low) at (of-any.explaining-refuses (narrow code) (wordWith low high) limit list) in (
+explaining-refuses code low check limit list =
+    let x = rw (add-zero low) at (of-any.explaining-refuses (narrow code) (wordWith low check) limit list) in (
       x .0,
       λ a. x .1 (accepted code a),
       λ a. x .2 (accepted code a),
@@ -18,8 +18,8 @@ explaining-refuses code low high limit list =
     )
 
 pub explained-entries : demands.ExplainedEntries
-explained-entries code low high limit list done a =
-    rw (add-zero low) at (of-any.explained-entries (narrow code) (wordWith low high) limit list done (accepted code a))
+explained-entries code low check limit list done a =
+    rw (add-zero low) at (of-any.explained-entries (narrow code) (wordWith low check) limit list done (accepted code a))
 
 pub entry-tells : demands.EntryTells
 entry-tells code a = of-any.entry-tells (narrow code) (accepted code a)

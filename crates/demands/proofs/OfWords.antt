@@ -22,28 +22,28 @@ writing-bits code a = of-any.writing-bits (narrowCode code) (accepted code a)
 -- ---- a word in its two parts
 
 pub reading-refuses : demands.ReadingRefuses
-reading-refuses code low high =
-    let x = of-any.reading-refuses (narrow code) (wordWith low high) in (
+reading-refuses code low check =
+    let x = of-any.reading-refuses (narrow code) (wordWith low check) in (
       λ h. ap narrowed (x .0 h),
-      λ a l. ap narrowed (x .1 (accepted code a) (strays code low high l)),
-      λ a l h. x .2 (accepted code a) (fits code a low high l h),
+      λ a l. ap narrowed (x .1 (accepted code a) (strays code low check l)),
+      λ a l h. x .2 (accepted code a) (fits code a low check l h),
     )
 
 pub clean-exactly : demands.CleanExactly
-clean-exactly code a low high l h =
-    rw (add-zero low) at (of-any.clean-exactly (narrow code) (accepted code a) (wordWith low high) (fits code a low high l h))
+clean-exactly code a low check l h =
+    rw (add-zero low) at (of-any.clean-exactly (narrow code) (accepted code a) (wordWith low check) (fits code a low check l h))
 
 pub verdicts-exactly : demands.VerdictsExactly
-verdicts-exactly code a low high l h =
-    rw (add-zero low) at (of-any.verdicts-exactly (narrowCode code) (accepted code a) (wordWith low high) (fits code a low high l h))
+verdicts-exactly code a low check l h =
+    rw (add-zero low) at (of-any.verdicts-exactly (narrowCode code) (accepted code a) (wordWith low check) (fits code a low check l h))
 
 pub syndrome-told : demands.SyndromeTold
-syndrome-told code a low high l h =
-    rw (add-zero low) at (of-any.syndrome-told (narrowCode code) (accepted code a) (wordWith low high) (fits code a low high l h))
+syndrome-told code a low check l h =
+    rw (add-zero low) at (of-any.syndrome-told (narrowCode code) (accepted code a) (wordWith low check) (fits code a low check l h))
 
 pub place-named : demands.PlaceNamed
-place-named code a low high l h =
-    rw (add-zero low) at (of-any.place-named (narrowCode code) (accepted code a) (wordWith low high) (fits code a low high l h))
+place-named code a low check l h =
+    rw (add-zero low) at (of-any.place-named (narrowCode code) (accepted code a) (wordWith low check) (fits code a low check l h))
 
 -- ---- a word as one number
 

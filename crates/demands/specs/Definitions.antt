@@ -1,25 +1,19 @@
--- The words that Demands.antt uses. Assumes nothing.
+-- The words that Demands.antt uses, but for those that say the same in every edition: these are crate editions' (Given.antt). Assumes nothing.
 use Prim.{Unit}
 use mathlib.Core.Path.{_≡_}
-use mathlib.Core.List.{List, [], _∷_, _++_}
+use mathlib.Core.List.{List, [], _∷_}
 use mathlib.Core.Bool.{cond}
-use Prim.Native.Nat.{ℕ, zero, suc, _+_, _-_, _/_, _%_, _^_, _<_}
+use Prim.Native.Nat.{ℕ, zero, suc, _+_, _-_, _/_, _^_, _<_}
 use lib.Dec.{eqb}
-use lib.IntN.{pos}
-use lib.ListN.{length, take, replicate}
+use lib.ListN.{length, take}
 use Rattle.columns.specs.Mix.{column}
 use Rattle.code.specs.declared.Code.{Code}
 use Rattle.code.specs.declared.Refusal.{Refusal}
 use Rattle.code.specs.Rule.{matrixOf}
 use Rattle.code.specs.Opened.{openedOf, columnsOf}
-use Rattle.balance.specs.declared.RowBalance.{RowBalance}
-use Rattle.writing.specs.declared.CheckWord.{CheckWord}
 use Rattle.word.specs.Word.{wordOf, dataOf, checkOf}
-use Rattle.explain.specs.declared.Listing.{Listing}
 use Rattle.explain.specs.Explanations as explaining
-use Rattle.card_check.specs.declared.CardCheck.{CardCheck}
 use Rattle.cards.specs.Cards.{Card, allCards}
-use Rattle.record.specs.declared.Tally.{Tally}
 use Rattle.record.specs.Layout.{dataSize, recordSize, entrySize, dataIn, checkIn, Entry}
 use Rattle.record.specs.Run.{recordAt}
 use Rattle.record.specs.Journal.{entriesFrom}
@@ -27,6 +21,7 @@ use Rattle.pass.specs.declared.PassAnswer.{PassAnswer}
 use Rattle.asked.specs.Pass.{Pass, State}
 use Rattle.pass.specs.Pass.{readerOf, neededRun}
 use Rattle.passes.specs.Twice.{stateIn}
+use Rattle.editions.specs.Given.{refusedPass, Stamped}
 use Rattle.desk.specs.declared.ReadWord.{ReadWord}
 use Rattle.desk.specs.Answers.{judgementOf, readOf, passedOf}
 
@@ -85,42 +80,17 @@ explanations code w limit = explaining.explanations (openedOf code .rows) (colum
 abbrev pub explanationsOf : Code → ℕ → ℕ → ℕ → List (List ℕ)
 explanationsOf code low check limit = explanations code (wordOf (code .k) low check) limit
 
--- ---- refused answers: a number, what is told, and 0 everywhere else
-
-abbrev pub told : ℕ → ℕ → Refusal
-told number what = record { number = number; told = what }
-
-abbrev pub onlyNumber : ℕ → Refusal
-onlyNumber number = told number 0
-
-abbrev pub refusedRows : Refusal → RowBalance
-refusedRows f = record { number = f .number; told = f .told; rows = replicate 16 (pos 0) }
-
-abbrev pub refusedWriting : Refusal → CheckWord
-refusedWriting f = record { number = f .number; told = f .told; check = 0 }
-
+-- a refused reading: a number, what is told, and 0 everywhere else
 abbrev pub refusedReading : Refusal → ReadWord
 refusedReading f = record { number = f .number; told = f .told; verdict = 0; place = 0; «data» = 0; check = 0; syndrome = 0 }
-
-abbrev pub refusedListing : Refusal → Listing
-refusedListing f = record { number = f .number; told = f .told; length = 0 }
-
-abbrev pub refusedCards : Refusal → CardCheck
-refusedCards f = record { number = f .number; told = f .told; card = 0; mask = 0 }
-
-abbrev pub allZero : Tally
-allZero = record { clean = 0; «data» = 0; check = 0; even = 0; odd = 0; stray = 0 }
-
-abbrev pub refusedPass : Refusal → PassAnswer
-refusedPass f = record { number = f .number; told = f .told; used = 0; tally = allZero }
 
 -- ---- images and journals, of records with 8 bytes of data
 
 abbrev pub recordOf : List ℕ → ℕ → List ℕ
 recordOf image i = recordAt (recordSize dataSize) image i
 
-abbrev pub entryAt : List ℕ → ℕ → List ℕ
-entryAt journal m = recordAt (entrySize dataSize) journal m
+abbrev pub entryBytesAt : List ℕ → ℕ → List ℕ
+entryBytesAt journal m = recordAt (entrySize dataSize) journal m
 
 -- how many entries a journal has room for, and how many the run from a up to b needs
 abbrev pub room : List ℕ → ℕ
@@ -128,13 +98,6 @@ room journal = length journal / entrySize dataSize
 
 abbrev pub needed : Code → List ℕ → ℕ → ℕ → ℕ
 needed code image a b = neededRun (readerOf (openedOf code) dataSize) image a b
-
--- the bytes of an entry: stamp and record number, low byte first, verdict, place, syndrome, low byte first, the record as read and as left
-abbrev pub entryOf : ℕ → ℕ → ℕ → ℕ → ℕ → List ℕ → List ℕ → List ℕ
-entryOf stamp i verdict place syndrome before after =
-    (stamp % 256 ∷ stamp / 256 % 256 ∷ stamp / 256 / 256 % 256 ∷ stamp / 256 / 256 / 256 % 256
-    ∷ i % 256 ∷ i / 256 % 256 ∷ verdict ∷ place ∷ syndrome % 256 ∷ syndrome / 256 % 256 ∷ [])
-    ++ (before ++ after)
 
 -- reading the word that the record i says
 abbrev pub readAt : Code → List ℕ → ℕ → ReadWord
@@ -182,10 +145,6 @@ pub record Turn : Type 0 where
 unfoldable pub turnsAfter : List Turn → State → State
 turnsAfter [] s = s
 turnsAfter (x ∷ xs) s = turnsAfter xs (stateAfter (x .code) (x .pass) s)
-
--- a stamp is a number of 32 bits
-abbrev pub Stamped : Pass → Type 0
-Stamped p = p .stamp < 2 ^ 32
 
 unfoldable pub AllStamped : List Turn → Type 0
 AllStamped [] = Unit

@@ -1,9 +1,10 @@
 -- THE DEMANDS: what the desk promises of its exported functions, each a named proposition, proved in proofs/Demands.antt. Numbers, values
--- and words are document 01's. Definitions.antt beside this page has the words used here, crate desk's Answers.antt what each function
--- answers. In order: records and entries; the code; writing and reading one word; explanations; cards; the tally; the pass; any order of
--- passes (02's request 113; its words in Orders.antt and in crate orders); station sheets (02's request 107; their words in Sheets.antt);
--- making a code (02's request 101; its words in Making.antt); words of ten bytes (02's request 114; theirs in Bytes.antt); putting back
--- (02's request 104; its words in PutBack.antt); places known to be bad (02's request 112; theirs in Bad.antt). Assumes nothing.
+-- and words are document 01's. Definitions.antt beside this page and crate editions' Given.antt have the words used here, crate desk's
+-- Answers.antt what each function answers. In order: records and entries; the code; writing and reading one word; explanations; cards; the
+-- tally; the pass; any order of passes (02's request 113; its words in Orders.antt and in crate orders); station sheets (02's request 107;
+-- their words in Sheets.antt); making a code (02's request 101; its words in Making.antt); words of ten bytes (02's request 114; theirs in
+-- Bytes.antt); putting back (02's request 104; its words in PutBack.antt); places known to be bad (02's request 112; theirs in Bad.antt).
+-- Assumes nothing.
 use mathlib.Core.Path.{_≡_}
 use mathlib.Core.Logic.{_≢_, _⊎_, _↔_}
 use mathlib.Core.Bool.{true, false, cond}
@@ -48,20 +49,20 @@ use Rattle.byte_parts.specs.Vectors.{timesT, powerT}
 use Rattle.byte_parts.specs.Parts.{byteAt, partsOf}
 use Rattle.byte_code.specs.Reading.{byteNumber}
 use Rattle.byte_errors.specs.Steps.{damaged, NoError, CheckError, DataError, NoStep}
+use Rattle.editions.specs.Given.{told, onlyNumber, refusedRows, refusedWriting, refusedListing, refusedCards, allZero, Stamped, backWith}
+use Rattle.editions.specs.Given as words
 use Rattle.desk.specs.Answers.{checkBitsOf, judgementOf, rowsOf, writtenOf, readOf, explainedOf, cardsOf, passedOf, byteWritten, byteRead}
 use Rattle.demands.specs.Definitions.{Handed, Stored, Accepted, Refused, dataColumns, placesOf, Unstrayed, read, HandsBack, Clean}
-use Rattle.demands.specs.Definitions.{explanations, explanationsOf, told, onlyNumber, refusedRows, refusedWriting, refusedReading, refusedListing}
-use Rattle.demands.specs.Definitions.{cardsFor, refusedCards, allZero, PassRefused, recordOf, entryAt, room, needed, readAt, verdictOf, placeFor, syndromeFor}
-use Rattle.demands.specs.Definitions.{answerOf, imageAfter, journalAfter, Done, stateAfter, Turn, turnsAfter, Stamped, AllStamped, newEntries}
-use Rattle.demands.specs.Definitions.{countFrom}
-use Rattle.demands.specs.Definitions as words
+use Rattle.demands.specs.Definitions.{explanations, explanationsOf, refusedReading, cardsFor, PassRefused, recordOf, entryBytesAt, room, needed}
+use Rattle.demands.specs.Definitions.{readAt, verdictOf, placeFor, syndromeFor, answerOf, imageAfter, journalAfter, Done, stateAfter, Turn, turnsAfter}
+use Rattle.demands.specs.Definitions.{AllStamped, newEntries, countFrom}
 use Rattle.demands.specs.Sheets.{sheetFor, noFigures}
 use Rattle.least.specs.Order.{Before}
 use Rattle.desk.specs.Answers.{madeOf}
 use Rattle.demands.specs.Making.{IsMade, noCode}
 use Rattle.demands.specs.Orders.{neededForAll, RunsApart, InSomeOrder, afterAll, asItWas}
 use Rattle.demands.specs.Bytes.{IsByte, Pattern, handing}
-use Rattle.demands.specs.PutBack.{answerBack, imageBack, backWith, fromLast, lastBack, LastMatch, StopsAt}
+use Rattle.demands.specs.PutBack.{answerBack, imageBack, fromLast, lastBack, LastMatch, StopsAt}
 use Rattle.recovered.specs.Named.{Repeated, WrongPlaces}
 use Rattle.recovered.specs.Stuck.{ReadBack, complement}
 use Rattle.desk.specs.Answers.{recoveredOf, badPlacesOf}
@@ -179,16 +180,16 @@ WritingBits =
 -- Reading refuses in this order: the code's number and place; 7 exactly for a data bit at k or above or a check bit at r or above.
 abbrev pub ReadingRefuses : Type 0
 ReadingRefuses =
-    (code : Code) (low high : ℕ)
-    → (Refused code → readOf code low high ≡ refusedReading (judgementOf code))
-    × (Accepted code → (2 ^ code .k ≤ low) ⊎ (2 ^ code .r ≤ high) → readOf code low high ≡ refusedReading (onlyNumber 7))
-    × (Accepted code → low < 2 ^ code .k → high < 2 ^ code .r → (readOf code low high .number ≡ 0) × (readOf code low high .told ≡ 0))
+    (code : Code) (low check : ℕ)
+    → (Refused code → readOf code low check ≡ refusedReading (judgementOf code))
+    × (Accepted code → (2 ^ code .k ≤ low) ⊎ (2 ^ code .r ≤ check) → readOf code low check ≡ refusedReading (onlyNumber 7))
+    × (Accepted code → low < 2 ^ code .k → check < 2 ^ code .r → (readOf code low check .number ≡ 0) × (readOf code low check .told ≡ 0))
 
 -- A word without stray bits reads clean exactly when writing its data gives its check bits; it is then handed back as read, with place 255.
 abbrev pub CleanExactly : Type 0
 CleanExactly =
-    (code : Code) → Accepted code → (low high : ℕ) → low < 2 ^ code .k → high < 2 ^ code .r
-    → (readOf code low high .verdict ≡ 0) ↔ (writtenOf code low .check ≡ high)
+    (code : Code) → Accepted code → (low check : ℕ) → low < 2 ^ code .k → check < 2 ^ code .r
+    → (readOf code low check .verdict ≡ 0) ↔ (writtenOf code low .check ≡ check)
 
 abbrev pub CleanAsRead : Type 0
 CleanAsRead =
@@ -199,9 +200,9 @@ CleanAsRead =
 -- as read.
 abbrev pub VerdictsExactly : Type 0
 VerdictsExactly =
-    (code : Code) → Accepted code → (low high : ℕ) → low < 2 ^ code .k → high < 2 ^ code .r
-    → let s = bitXor (writtenOf code low .check) high in
-    let v = readOf code low high .verdict in
+    (code : Code) → Accepted code → (low check : ℕ) → low < 2 ^ code .k → check < 2 ^ code .r
+    → let s = bitXor (writtenOf code low .check) check in
+    let v = readOf code low check .verdict in
     ((v ≡ 0) ↔ (s ≡ 0))
     × ((v ≡ 1) ↔ ((p : ℕ) × (p < code .k) × (column (matrixOf code) p ≡ s)))
     × ((v ≡ 2) ↔ ((p : ℕ) × (code .k ≤ p) × (p < placesOf code) × (column (matrixOf code) p ≡ s)))
@@ -211,9 +212,9 @@ VerdictsExactly =
 -- Verdicts 1 and 2 name the place whose column is the syndrome; the others name none, 255.
 abbrev pub PlaceNamed : Type 0
 PlaceNamed =
-    (code : Code) → Accepted code → (low high : ℕ) → low < 2 ^ code .k → high < 2 ^ code .r
-    → let s = bitXor (writtenOf code low .check) high in
-    let a = readOf code low high in
+    (code : Code) → Accepted code → (low check : ℕ) → low < 2 ^ code .k → check < 2 ^ code .r
+    → let s = bitXor (writtenOf code low .check) check in
+    let a = readOf code low check in
     ((a .verdict ≡ 1) ⊎ (a .verdict ≡ 2) → (a .place < placesOf code) × (column (matrixOf code) (a .place) ≡ s))
     × (a .verdict ≢ 1 → a .verdict ≢ 2 → a .place ≡ 255)
 
@@ -221,9 +222,9 @@ PlaceNamed =
 -- reading hands back 0: `ReadingRefuses`.)
 abbrev pub SyndromeTold : Type 0
 SyndromeTold =
-    (code : Code) → Accepted code → (low high : ℕ) → low < 2 ^ code .k → high < 2 ^ code .r
-    → let a = readOf code low high in
-    (a .syndrome ≡ bitXor (writtenOf code low .check) high)
+    (code : Code) → Accepted code → (low check : ℕ) → low < 2 ^ code .k → check < 2 ^ code .r
+    → let a = readOf code low check in
+    (a .syndrome ≡ bitXor (writtenOf code low .check) check)
     × ((a .syndrome ≡ 0) ↔ (a .verdict ≡ 0))
     × ((a .verdict ≡ 1) ⊎ (a .verdict ≡ 2) → column (matrixOf code) (a .place) ≡ a .syndrome)
 
@@ -267,24 +268,24 @@ LeftAsRead =
 -- they held.
 abbrev pub ExplainingRefuses : Type 0
 ExplainingRefuses =
-    (code : Code) (low high limit : ℕ) (list : List ℕ)
-    → let a = explainedOf code low high limit list .answer in
-    let after = explainedOf code low high limit list .list in
-    let sets = explanationsOf code low high limit in
+    (code : Code) (low check limit : ℕ) (list : List ℕ)
+    → let a = explainedOf code low check limit list .answer in
+    let after = explainedOf code low check limit list .list in
+    let sets = explanationsOf code low check limit in
     (Refused code → (a ≡ refusedListing (judgementOf code)) × (after ≡ list))
-    × (Accepted code → (2 ^ code .k ≤ low) ⊎ (2 ^ code .r ≤ high) → (a ≡ refusedListing (onlyNumber 7)) × (after ≡ list))
-    × (Accepted code → low < 2 ^ code .k → high < 2 ^ code .r → 2 < limit → (a ≡ refusedListing (onlyNumber 11)) × (after ≡ list))
-    × (Accepted code → low < 2 ^ code .k → high < 2 ^ code .r → limit ≤ 2 → length list / 2 < length sets
+    × (Accepted code → (2 ^ code .k ≤ low) ⊎ (2 ^ code .r ≤ check) → (a ≡ refusedListing (onlyNumber 7)) × (after ≡ list))
+    × (Accepted code → low < 2 ^ code .k → check < 2 ^ code .r → 2 < limit → (a ≡ refusedListing (onlyNumber 11)) × (after ≡ list))
+    × (Accepted code → low < 2 ^ code .k → check < 2 ^ code .r → limit ≤ 2 → length list / 2 < length sets
     → (a ≡ refusedListing (told 10 (length sets))) × (after ≡ list))
-    × (Accepted code → low < 2 ^ code .k → high < 2 ^ code .r → limit ≤ 2 → length sets ≤ length list / 2
+    × (Accepted code → low < 2 ^ code .k → check < 2 ^ code .r → limit ≤ 2 → length sets ≤ length list / 2
     → (a ≡ record { number = 0; told = 0; length = length sets }) × (after ≡ over (bytesFor sets) list))
 
 -- Entry i of a done list is set i: its lower place and its higher, 255 for none. The bytes past the entries stay.
 abbrev pub ExplainedEntries : Type 0
 ExplainedEntries =
-    (code : Code) (low high limit : ℕ) (list : List ℕ) → explainedOf code low high limit list .answer .number ≡ 0 → Accepted code
-    → let after = explainedOf code low high limit list .list in
-    let sets = explanationsOf code low high limit in
+    (code : Code) (low check limit : ℕ) (list : List ℕ) → explainedOf code low check limit list .answer .number ≡ 0 → Accepted code
+    → let after = explainedOf code low check limit list .list in
+    let sets = explanationsOf code low check limit in
     ((i : ℕ) → i < length sets → take 2 (drop (2 * i) after) ≡ entryOf (getD sets i []))
     × (drop (2 * length sets) after ≡ drop (2 * length sets) list)
 
@@ -444,7 +445,7 @@ PassEntries =
     → let before = needed code (s .image) (p .start) in
     let end = (s .used + before (p .end)) * entrySize dataSize in
     ((i : ℕ) → p .start ≤ i → i < p .end → verdictOf code (s .image) i ≢ 0
-    → entryAt (journalAfter code p s) (s .used + before i)
+    → entryBytesAt (journalAfter code p s) (s .used + before i)
     ≡ words.entryOf (p .stamp) i (verdictOf code (s .image) i) (placeFor code (s .image) i) (syndromeFor code (s .image) i)
     (recordOf (s .image) i) (recordOf (imageAfter code p s) i))
     × ((m : ℕ) → m < before (p .end)
@@ -823,7 +824,7 @@ PassedAgain =
     (turns : List Turn) (s : State) → s .used ≡ 0 → (journal : List ℕ) → length journal ≡ length (s .journal)
     → let t = turnsAfter turns s in
     let u = turnsAfter turns (stateOf (imageBack t) journal 0) in
-    (u .image ≡ t .image) × (u .used ≡ t .used) × ((m : ℕ) → m < t .used → entryAt (u .journal) m ≡ entryAt (t .journal) m)
+    (u .image ≡ t .image) × (u .used ≡ t .used) × ((m : ℕ) → m < t .used → entryBytesAt (u .journal) m ≡ entryBytesAt (t .journal) m)
 
 -- ---- places known to be bad
 
@@ -831,12 +832,12 @@ PassedAgain =
 -- at n or above; 23, exactly when no code word is near enough (`RecoveredExactly`). Else its number is 0, and nothing is told.
 abbrev pub RecoveringRefuses : Type 0
 RecoveringRefuses =
-    (code : Code) (low high : ℕ) (bad : List ℕ)
-    → let a = recoveredOf code low high bad in
+    (code : Code) (low check : ℕ) (bad : List ℕ)
+    → let a = recoveredOf code low check bad in
     (Refused code → a ≡ refusedRecovered (judgementOf code))
-    × (Accepted code → (2 ^ code .k ≤ low) ⊎ (2 ^ code .r ≤ high) → a ≡ refusedRecovered (onlyNumber 7))
-    × (Accepted code → low < 2 ^ code .k → high < 2 ^ code .r → WrongPlaces (placesOf code) bad → a ≡ refusedRecovered (onlyNumber 22))
-    × (Accepted code → low < 2 ^ code .k → high < 2 ^ code .r → ¬ (WrongPlaces (placesOf code) bad)
+    × (Accepted code → (2 ^ code .k ≤ low) ⊎ (2 ^ code .r ≤ check) → a ≡ refusedRecovered (onlyNumber 7))
+    × (Accepted code → low < 2 ^ code .k → check < 2 ^ code .r → WrongPlaces (placesOf code) bad → a ≡ refusedRecovered (onlyNumber 22))
+    × (Accepted code → low < 2 ^ code .k → check < 2 ^ code .r → ¬ (WrongPlaces (placesOf code) bad)
     → (a ≡ refusedRecovered (onlyNumber 23)) ⊎ ((a .number ≡ 0) × (a .told ≡ 0)))
 
 -- A word is handed back exactly when it is a code word that differs from that as read, outside the bad places, in at most one place where
@@ -891,12 +892,12 @@ RecoveredAnyOrder =
 -- The finder refuses in this order: the code's number and place; 7 for a stray bit in either read.
 abbrev pub FindingRefuses : Type 0
 FindingRefuses =
-    (code : Code) (low high low′ high′ : ℕ)
-    → let a = badPlacesOf code low high low′ high′ in
+    (code : Code) (low check low′ check′ : ℕ)
+    → let a = badPlacesOf code low check low′ check′ in
     (Refused code → a ≡ refusedBadPlaces (judgementOf code))
-    × (Accepted code → ((2 ^ code .k ≤ low) ⊎ (2 ^ code .r ≤ high)) ⊎ ((2 ^ code .k ≤ low′) ⊎ (2 ^ code .r ≤ high′))
+    × (Accepted code → ((2 ^ code .k ≤ low) ⊎ (2 ^ code .r ≤ check)) ⊎ ((2 ^ code .k ≤ low′) ⊎ (2 ^ code .r ≤ check′))
     → a ≡ refusedBadPlaces (onlyNumber 7))
-    × (Accepted code → low < 2 ^ code .k → high < 2 ^ code .r → low′ < 2 ^ code .k → high′ < 2 ^ code .r
+    × (Accepted code → low < 2 ^ code .k → check < 2 ^ code .r → low′ < 2 ^ code .k → check′ < 2 ^ code .r
     → (a .number ≡ 0) × (a .told ≡ 0))
 
 -- Place p is a one in its answer exactly when it is below n and the two reads agree there.

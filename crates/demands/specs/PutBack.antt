@@ -14,10 +14,6 @@ answerBack s = putBackOf (s .image) (s .journal) (s .used) .answer
 abbrev pub imageBack : State → List ℕ
 imageBack s = putBackOf (s .image) (s .journal) (s .used) .image
 
--- a number, and how many entries were put back; nothing is told
-abbrev pub backWith : ℕ → ℕ → PutBack
-backWith number count = record { number = number; told = 0; count = count }
-
 -- the entries in use, counted from the last; the image once the last m are put back; that each of them matched; that the next does not
 abbrev pub fromLast : State → ℕ → Entry
 fromLast s m = history.fromLast dataSize (s .journal) (s .used) m

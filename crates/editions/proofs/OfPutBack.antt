@@ -18,7 +18,7 @@ use Rattle.history.proofs.Undone.{AllKnown}
 use Rattle.history.proofs.Restored.{restored}
 use Rattle.history.proofs.Exactly as exactly
 use Rattle.history.proofs.Again.{Alike, steps-alike, fresh-alike}
-use Rattle.editions.specs.Given.{Edition, Turn, codeIn, turnsAfter, room, entryAt, putBackOf, answerBack, imageBack, lastBack, LastMatch, StopsAt}
+use Rattle.editions.specs.Given.{Edition, Turn, codeIn, turnsAfter, room, entryBytesAt, putBackOf, answerBack, imageBack, lastBack, LastMatch, StopsAt}
 use Rattle.editions.specs.Promises as promises
 use Rattle.editions.proofs.OfPasses.{known, steps-of, same-after}
 
@@ -90,7 +90,7 @@ passed-again e turns s none journal long =
     )
   where
     same-entry : (n : ℕ) (x y : List ℕ) → take (n * entrySize (e .bytes)) x ≡ take (n * entrySize (e .bytes)) y → (m : ℕ) → m < n
-        → entryAt e x m ≡ entryAt e y m
+        → entryBytesAt e x m ≡ entryBytesAt e y m
     same-entry n x y f m h =
         let size = entrySize (e .bytes) in
         let fits : suc m * size ≤ n * size = mul-le-mul-right size h in

@@ -294,8 +294,8 @@ refusedPass f = record { number = f .number; told = f .told; used = 0; tally = a
 abbrev pub recordOf : Edition → List ℕ → ℕ → List ℕ
 recordOf e image i = recordAt (recordSize (e .bytes)) image i
 
-abbrev pub entryAt : Edition → List ℕ → ℕ → List ℕ
-entryAt e journal m = recordAt (entrySize (e .bytes)) journal m
+abbrev pub entryBytesAt : Edition → List ℕ → ℕ → List ℕ
+entryBytesAt e journal m = recordAt (entrySize (e .bytes)) journal m
 
 -- how many entries a journal has room for, and how many the run from a up to b needs
 abbrev pub room : Edition → List ℕ → ℕ

@@ -46,7 +46,7 @@ use Rattle.editions.specs.Given.{Edition, Given, HsiaoCode, given, Chose
 use Rattle.editions.specs.Given.{checkBitsOf, madeOf, judgementOf, rowsOf, writtenOf, readOf, explainedOf, cardsOf, IsMade, noCode}
 use Rattle.editions.specs.Given.{cardsFor, bitsOf, Strays, Fits, Unstrayed, read, HandsBack, Clean, explanations, explanationsOf}
 use Rattle.editions.specs.Given.{told, onlyNumber, refusedRows, refusedWriting, refusedReading, refusedListing, refusedCards, allZero}
-use Rattle.editions.specs.Given.{recordOf, entryAt, room, needed, entryOf, readAt, verdictOf, placeFor, syndromeFor, InBytes}
+use Rattle.editions.specs.Given.{recordOf, entryBytesAt, room, needed, entryOf, readAt, verdictOf, placeFor, syndromeFor, InBytes}
 use Rattle.editions.specs.Given.{answerOf, imageAfter, journalAfter, Done, PassRefused, stateAfter, Stamped, Turn, turnsAfter, AllStamped}
 use Rattle.editions.specs.Given.{newEntries, countFrom, passedOf, neededForAll, RunsApart, InSomeOrder, afterAll, asItWas}
 use Rattle.editions.specs.Given.{recoveredOf, badPlacesOf, recover, givenBack, refusedRecovered, Recoverable, findBad, foundIn, refusedBadPlaces}
@@ -521,7 +521,7 @@ PassEntries code =
     let before = needed code (s .image) (p .start) in
     let end = (s .used + before (p .end)) * entrySize (e .bytes) in
     ((i : ℕ) → p .start ≤ i → i < p .end → verdictOf code (s .image) i ≢ 0
-    → entryAt e (journalAfter code p s) (s .used + before i)
+    → entryBytesAt e (journalAfter code p s) (s .used + before i)
     ≡ entryOf (p .stamp) i (verdictOf code (s .image) i) (placeFor code (s .image) i) (syndromeFor code (s .image) i)
     (recordOf e (s .image) i) (recordOf e (imageAfter code p s) i))
     × ((m : ℕ) → m < before (p .end)
@@ -696,7 +696,7 @@ PassedAgain e =
     (turns : List Turn) (s : State) → s .used ≡ 0 → (journal : List ℕ) → length journal ≡ length (s .journal)
     → let t = turnsAfter e turns s in
     let u = turnsAfter e turns (stateOf (imageBack e t) journal 0) in
-    (u .image ≡ t .image) × (u .used ≡ t .used) × ((m : ℕ) → m < t .used → entryAt e (u .journal) m ≡ entryAt e (t .journal) m)
+    (u .image ≡ t .image) × (u .used ≡ t .used) × ((m : ℕ) → m < t .used → entryBytesAt e (u .journal) m ≡ entryBytesAt e (t .journal) m)
 
 -- ---- places known to be bad
 
