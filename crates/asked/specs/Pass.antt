@@ -5,8 +5,8 @@ use mathlib.Core.List.{List}
 use Prim.Native.Nat.{ℕ, _-_, _/_, _%_}
 use lib.Dec.{eqb, ltb}
 use lib.ListN.{length}
-use Rattle.record.specs.Layout.{recordSize, entrySize, imageLimit, recordsIn, entryIn}
-use Rattle.record.specs.Run.{recordAt}
+use Rattle.record.specs.Layout.{recordSize, entrySize, imageLimit, recordsIn}
+use Rattle.record.specs.Journal.{entryAt}
 
 -- what a pass is told: its run, from the record `start` up to the record `end`, which is not counted, and its stamp
 pub record Pass : Type 0 where
@@ -34,7 +34,7 @@ roomIn d journal = length journal / entrySize d
 
 -- the stamp of the entry m, and that of the last entry in use
 abbrev pub stampAt : ℕ → List ℕ → ℕ → ℕ
-stampAt d journal m = entryIn d (recordAt (entrySize d) journal m) .stamp
+stampAt d journal m = entryAt d journal m .stamp
 
 abbrev pub lastStamp : ℕ → List ℕ → ℕ → ℕ
 lastStamp d journal used = stampAt d journal (used - 1)

@@ -6,9 +6,9 @@ use Prim.Native.Nat.{ℕ, _-_}
 use lib.Dec.{eqb, ltb}
 use Rattle.entry_back.specs.declared.Step.{Step}
 use Rattle.entry_back.specs.declared.Step.the-variants.{Back, Stop}
-use Rattle.record.specs.Layout.{recordSize, entrySize, Entry, entryIn, recordsIn}
+use Rattle.record.specs.Layout.{recordSize, Entry, recordsIn}
 use Rattle.record.specs.Run.{recordAt}
-use Rattle.record.specs.Journal.{putRecord}
+use Rattle.record.specs.Journal.{entryAt, putRecord}
 
 -- whether two lists have the same elements
 unfoldable pub sameBytes : List ℕ → List ℕ → Bool
@@ -16,10 +16,6 @@ sameBytes [] [] = true
 sameBytes [] (y ∷ ys) = false
 sameBytes (x ∷ xs) [] = false
 sameBytes (x ∷ xs) (y ∷ ys) = eqb x y && sameBytes xs ys
-
--- the entry m of a journal
-abbrev pub entryAt : ℕ → List ℕ → ℕ → Entry
-entryAt d journal m = entryIn d (recordAt (entrySize d) journal m)
 
 -- an entry's record lies in the image, and holds its bytes as left
 abbrev pub matches : ℕ → Entry → List ℕ → Bool

@@ -15,7 +15,7 @@ use lib.ListN.{length, take-append-drop}
 use Rattle.record.specs.Bytes.{byteSpan}
 use Rattle.record.specs.Layout.{recordSize, numberSize, entrySize, Entry, entryIn, recordsIn}
 use Rattle.record.specs.Run.{recordAt, gather, addUp, fromRecord}
-use Rattle.record.specs.Journal.{neededOf, putRecord}
+use Rattle.record.specs.Journal.{neededOf, entryAt, putRecord}
 use Rattle.runs.proofs.Run.{record-length, record-drop, record-take, fits-less}
 use Rattle.runs.proofs.Journal.{needed-clean, needed-more}
 use Rattle.runs.proofs.Entries.{record-said}
@@ -33,8 +33,8 @@ use Rattle.passes.proofs.Facts.{asked, rising, fits, entered, entry-is, record-
 use Rattle.passes.proofs.Applied.{put-same, left-here, left-step}
 use Rattle.passes.proofs.Stamps.{Known, refused-stays, used-after}
 use Rattle.put_back.proofs.Backwards.{back-step}
-use Rattle.entry_back.specs.Entry.{sameBytes, entryAt, matches, undone}
-use Rattle.put_back.specs.Back.{Back, backFrom}
+use Rattle.entry_back.specs.Entry.{sameBytes, matches, undone}
+use Rattle.put_back.specs.Back.{backFrom}
 use Rattle.history.proofs.Putting.{same-bytes, record-put, put-put, length-put}
 
 -- journals that agree on the entries in use

@@ -4,7 +4,8 @@ use mathlib.Core.List.{List}
 use Prim.Native.Nat.{ℕ, zero, suc, _-_, _<_}
 use Rattle.record.specs.Layout.{recordSize, Entry, recordsIn}
 use Rattle.record.specs.Run.{recordAt}
-use Rattle.entry_back.specs.Entry.{entryAt, undone}
+use Rattle.record.specs.Journal.{entryAt}
+use Rattle.entry_back.specs.Entry.{undone}
 
 -- an entry matches: its record lies in the image, and holds the entry's bytes as left
 pub record Matches (d : ℕ) (e : Entry) (image : List ℕ) : Type 0 where

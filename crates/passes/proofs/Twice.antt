@@ -3,21 +3,20 @@
 use mathlib.Core.Path.{_≡_, refl, sym, ap, ap₂, _∙_}
 use mathlib.Core.Bool.{cond}
 use mathlib.Core.Logic.{_⊎_, inl, inr, ⊎-elim}
-use mathlib.Core.List.{List, _++_, append-assoc}
+use mathlib.Core.List.{List}
 use Prim.Native.Nat.{ℕ, zero, suc, _+_, _*_, _-_, _/_, _≤_, _<_}
 use native.Mathlib.Nat.{add-mul, mul-comm}
 use native.Mathlib.Omega.{arith}
 use lib.Dec.{eqb}
-use lib.ListN.{length, take, drop, length-append}
-use lib.Seq.{take-at, drop-drop, length-take-le}
+use lib.ListN.{length}
 use Rattle.record.specs.declared.Tally.{Tally}
 use Rattle.record.specs.Bytes.{AllBytes}
 use Rattle.record.specs.Layout.{recordSize, entrySize, Entry, inBytes}
-use Rattle.record.specs.Run.{recordAt, gather, addUp, over, fromRecord, gatherRun}
+use Rattle.record.specs.Run.{recordAt, gather, addUp, fromRecord, gatherRun}
 use Rattle.record.specs.Tally.{tallyBy, oneIf, tallyOf}
 use Rattle.record.specs.Journal.{unclean, noted}
 use Rattle.runs.proofs.Numbers.{bytes-part}
-use Rattle.runs.proofs.Over.{over-over}
+use Rattle.runs.proofs.Over.{from-from}
 use Rattle.runs.proofs.Run.{fits-less, record-length, record-drop, gather-alike}
 use Rattle.runs.proofs.Entries.{in-bytes-append}
 use Rattle.runs.proofs.Tallies.{tally-same}
@@ -34,7 +33,6 @@ use Rattle.pass.proofs.Cases.{doneWith}
 use Rattle.pass.proofs.Answers.{answer-done}
 use Rattle.passes.specs.Twice.{stateAfter, added, verdictAgain, tallyAgain}
 use Rattle.passes.proofs.Rows.{done-asked, done-is}
-use Rattle.passes.proofs.Behind.{past-behind}
 use Rattle.passes.proofs.Facts.{verdict-le, length-notedRun, five-counts, asked, rising, fits, in-use, in-use-after, before-stays, after-stays, length-image, length-journal, record-left, used-is, tally-is}
 use Rattle.passes.proofs.Alike.{same-image, same-run}
 use Rattle.passes.proofs.Stamps.{on-again, used-after}
@@ -152,19 +150,6 @@ module _ (o : Opened) (d : ℕ) (sound : SoundOpened o) (laid : Laid o) (held : 
 
 -- ---- two runs that meet
 
--- bytes written behind others are written with them
-behind-behind : (at n : ℕ) (x y journal : List ℕ) → length x ≡ n → at ≤ length journal
-    → behind (at + n) y (behind at x journal) ≡ behind at (x ++ y) journal
-behind-behind at n x y journal e fits =
-    let front : length (take at journal ++ x) ≡ at + n =
-    length-append (take at journal) x ∙ ap₂ _+_ (length-take-le at journal fits) e in
-    ap₂ (λ (p q : List ℕ). p ++ over y q)
-    (ap (take (at + n)) (sym (append-assoc (take at journal) x (drop (length x) (drop at journal))))
-    ∙ take-at (take at journal ++ x) (drop (length x) (drop at journal)) (at + n) front)
-    (past-behind at x journal fits n e ∙ sym (drop-drop n at journal))
-    ∙ append-assoc (take at journal) x (over y (drop n (drop at journal)))
-    ∙ ap (λ (l : List ℕ). take at journal ++ l) (over-over x y (drop at journal) n e)
-
 -- what a run says of the image from its first record on
 module _ (f : Reader) (image now : List ℕ) (b c : ℕ)
     (same : fromRecord (recordSize (f .d)) b now ≡ fromRecord (recordSize (f .d)) b image) where
@@ -274,7 +259,7 @@ module _ (o : Opened) (d a b c stamp : ℕ) (s : State) (taken : o .standing ≡
           ∙ ap (λ l. behind (s .used * size) (inBytes l) (s .journal))
           (gather-split (recordSize d) (s .image) a b c up on (noted (verdictOf g) (entryOf g stamp)))
           ∙ ap (λ l. behind (s .used * size) l (s .journal)) (in-bytes-append x y)
-          ∙ sym (behind-behind (s .used * size) (part * size) (inBytes x) (inBytes y) (s .journal) long (in-use o d first s taken z))
+          ∙ sym (from-from (s .used * size) (part * size) (inBytes x) (inBytes y) (s .journal) long (in-use o d first s taken z))
           ∙ ap (λ n. behind n (inBytes y) (behind (s .used * size) (inBytes x) (s .journal)))
           (sym (add-mul (s .used) part size) ∙ ap (λ n. n * size) (sym used-mid))
           ∙ ap₂ (λ l j. behind (mid .used * size) (inBytes l) j)

@@ -6,7 +6,8 @@ use Prim.Native.Nat.{ℕ, zero, suc}
 use native.Mathlib.Omega.{arith}
 use Rattle.put_back.specs.declared.PutBack.{PutBack}
 use Rattle.entry_back.specs.declared.Step.{Step}
-use Rattle.entry_back.specs.Entry.{entryAt, matches, undone}
+use Rattle.record.specs.Journal.{entryAt}
+use Rattle.entry_back.specs.Entry.{matches, undone}
 use Rattle.put_back.specs.Back.{Back, backFrom, returnedBy}
 
 module _ (d : ℕ) (journal : List ℕ) (n c : ℕ) (image : List ℕ) where

@@ -6,7 +6,8 @@ use Prim.Native.Nat.{ℕ, zero, suc}
 use lib.Dec.{ltb}
 use Rattle.put_back.specs.declared.PutBack.{PutBack}
 use Rattle.asked.specs.Pass.{noImage, roomIn}
-use Rattle.entry_back.specs.Entry.{entryAt, matches, undone}
+use Rattle.record.specs.Journal.{entryAt}
+use Rattle.entry_back.specs.Entry.{matches, undone}
 
 pub record Back : Type 0 where
   pub image : List ℕ

@@ -1,13 +1,13 @@
 -- Laws of a text written into a list from a place on. Assumes nothing.
-use mathlib.Core.Path.{_≡_, refl, sym, ap, _∙_}
-use mathlib.Core.List.{List, [], _∷_, _++_, append-assoc}
+use mathlib.Core.Path.{_≡_, refl, sym, ap, ap₂, _∙_}
+use mathlib.Core.List.{List, [], _∷_, _++_}
 use Prim.Native.Nat.{ℕ, _+_, _≤_, _<_}
 use native.Mathlib.Numerals.{add-one}
 use native.Mathlib.Omega.{arith}
-use lib.ListN.{length, take, drop, set, length-append, length-take}
+use lib.ListN.{length, drop, set, length-append}
 use lib.Seq.{set-split, drop-drop, length-take-le}
-use Rattle.record.specs.Run.{over}
-use Rattle.record.proofs.Over.{over-part}
+use Rattle.record.specs.Run.{over, overFrom}
+use Rattle.runs.proofs.Over.{from-over, from-from}
 use Rattle.report.specs.Text.{written, Held}
 
 -- what a function that writes a text answers, and leaves behind
@@ -21,26 +21,16 @@ set-written d at v h = rw (drop-drop 1 at d, add-one at) (set-split d at v h)
 -- behind a front
 pub written-over : (p text d : List ℕ) (at : ℕ) → length p ≡ at → written at text (over p d) ≡ over (p ++ text) d
 unfolding written
-written-over p text d at e = over-part p d text at (length text) e refl
-
-written-is : (at : ℕ) (text d : List ℕ) → at ≤ length d → written at text d ≡ over (take at d ++ text) d
-unfolding written
-written-is at text d h =
-    rw (length-append (take at d) text, length-take-le at d h, ← drop-drop (length text) at d)
-    (sym (append-assoc (take at d) text (drop (length text) (drop at d))))
+written-over p text d at e = from-over p text d at e
 
 -- two texts, one behind the other, are one
 pub both : (at mid end : ℕ) (s t d between out : List ℕ) → at + length s ≤ length d → Puts at s d mid between
     → Puts mid t between end out → Puts at (s ++ t) d end out
-both at mid end s t d between out h p q =
-    let l : length (take at d ++ s) ≡ mid = simp (length-append, length-take) (omega arith) in (
-      simp length-append (omega arith),
-      q .1
-          ∙ ap (written mid t) (p .1 ∙ written-is at s d (omega arith))
-          ∙ written-over (take at d ++ s) t d mid l
-          ∙ ap (λ (m : List ℕ). over m d) (append-assoc (take at d) s t)
-          ∙ sym (written-is at (s ++ t) d (omega arith)),
-    )
+unfolding written
+both at mid end s t d between out h p q = (
+  simp length-append (omega arith),
+  q .1 ∙ ap₂ (λ (m : ℕ) (l : List ℕ). overFrom m t l) (p .0) (p .1) ∙ from-from at (length s) s t d refl (omega arith),
+)
 
 -- a text at the front, which can be lent on
 pub fronted : (n : ℕ) (text d out : List ℕ) → n ≡ length text → out ≡ over text d → (n ≡ length text) × ((out ≡ over text d) × Held n out)

@@ -6,9 +6,9 @@ use Prim.Native.Char.{code}
 use Prim.Native.String.{String, [] as nil, _∷_ as cons}
 use Prim.Native.Nat.{ℕ, zero, suc, _+_, _-_, _*_, _/_, _%_, _≤_}
 use lib.Dec.{ltb, eqb}
-use lib.ListN.{length, take, drop}
+use lib.ListN.{length, take}
 use Rattle.record.specs.Layout.{dataSize, entrySize, entryIn}
-use Rattle.record.specs.Run.{gather, over}
+use Rattle.record.specs.Run.{gather, overFrom}
 use Rattle.report.specs.declared.Totals.{Totals}
 
 -- the character of a digit
@@ -50,7 +50,7 @@ holesIn (c ∷ t) = cond (eqb c hole) (suc (holesIn t)) (holesIn t)
 
 -- d with the text from the place `at` on
 unfoldable pub written : ℕ → List ℕ → List ℕ → List ℕ
-written at text d = take at d ++ over text (drop at d)
+written at text d = overFrom at text d
 
 -- n bytes stand at the start of d; the second part follows from the first, and saves a caller who lends them on a proof
 abbrev pub Held : ℕ → List ℕ → Type 0

@@ -9,7 +9,8 @@ use lib.ListN.{length, take, drop}
 use Rattle.record.specs.Layout.{entrySize, Entry, entryIn}
 use Rattle.record.specs.Run.{recordAt}
 use Rattle.record.proofs.Over.{part-length}
-use Rattle.entry_back.specs.Entry.{entryAt, matches, undone, stepOf, steppedImage}
+use Rattle.record.specs.Journal.{entryAt}
+use Rattle.entry_back.specs.Entry.{matches, undone, stepOf, steppedImage}
 use Rattle.entry_back.specs.declared.Step.the-variants.{Back, Stop}
 use Rattle.entry_back.proofs.entry_back.Statement.{statement}
 use Rattle.entry_back.proofs.entry_back.Tie as tie

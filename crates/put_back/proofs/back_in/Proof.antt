@@ -1,16 +1,16 @@
 -- `put_back::back_in` meets its contract. The invariant: what is left to put back gives what all gives. Assumes nothing.
-use mathlib.Core.Path.{_≡_, refl, sym, ap, ap₂, _∙_}
+use mathlib.Core.Path.{_≡_, refl, sym, ap, _∙_}
 use mathlib.Core.Bool.{Bool, true, false, cond}
-use mathlib.Core.List.{List}
-use Prim.Native.Nat.{ℕ, suc, _+_, _-_, _*_, _/_, _≤_, _<_}
+use Prim.Native.Nat.{suc, _-_, _≤_}
 use native.Mathlib.Nat.{sub-self, sub-zero}
 use native.Mathlib.Omega.{arith}
 use borrow.Author.Needs.{needs}
 use lib.ListN.{length}
 use Rattle.record.specs.Layout.{entrySize, Entry}
 use Rattle.runs.proofs.Sizes.{whole-fits}
-use Rattle.entry_back.specs.Entry.{entryAt, matches, undone}
-use Rattle.put_back.specs.Back.{Back, backFrom}
+use Rattle.record.specs.Journal.{entryAt}
+use Rattle.entry_back.specs.Entry.{matches, undone}
+use Rattle.put_back.specs.Back.{backFrom}
 use Rattle.put_back.proofs.Backwards.{back-step, back-stop, went, stood, returned}
 use Rattle.put_back.proofs.back_in.Statement.{statement}
 use Rattle.put_back.proofs.back_in.Tie as tie
