@@ -16,10 +16,12 @@ use Rattle.cards.specs.Cards.{cutInto, weakMask, firstFrom, tryMask, weakMaskIn
 use Rattle.card_check.specs.Checking.{cardedIn}
 use Rattle.order.specs.Order.{passingFrom, byOnes}
 use Rattle.make.specs.Made.{makeNumber}
+use Rattle.entry_back.specs.Entry.{sameBytes}
 use Rattle.worked.specs.Table.{right, allRight, table}
 
 pub all-hold : allRight table ≡ true
 unfolding allRight table right ones onesIn mix singlesFrom singles placeIn solveFrom solve judgeColumn judgeFrom judgeColumns
     leftoverFrom judgeRest judgeIn sumOf balanceAt balancesFrom flippedIn verdictOn readIn syndromeIn writeIn flipAll chosen setsUpTo those
     bytesFor explanations listedIn explainIn cutInto weakMask firstFrom tryMask weakMaskIn weakCardIn cardedIn passingFrom byOnes makeNumber
+    sameBytes
 all-hold = refl

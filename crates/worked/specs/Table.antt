@@ -12,6 +12,7 @@ use Rattle.code.specs.declared.Code.{Code}
 use Rattle.code.specs.Rule.{matrixOf}
 use Rattle.code.specs.Sample.{codeOf, sampleCode}
 use Rattle.balance.specs.Balance.{allOnes}
+use Rattle.entry_back.specs.Entry.{sameBytes}
 use Rattle.desk.specs.Answers.{judgementOf, rowsOf, writtenOf, readOf, explainedOf, cardsOf, madeOf}
 
 -- columns 7 and 11 with r 4
@@ -53,12 +54,6 @@ sameRows [] [] = true
 sameRows [] (y ∷ ys) = false
 sameRows (x ∷ xs) [] = false
 sameRows (x ∷ xs) (y ∷ ys) = sameℤ x y && sameRows xs ys
-
-abbrev pub sameBytes : List ℕ → List ℕ → Bool
-sameBytes [] [] = true
-sameBytes [] (y ∷ ys) = false
-sameBytes (x ∷ xs) [] = false
-sameBytes (x ∷ xs) (y ∷ ys) = eqb x y && sameBytes xs ys
 
 -- the answer is the one that the definitions give
 unfoldable pub right : Case → Bool
