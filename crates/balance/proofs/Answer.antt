@@ -1,11 +1,10 @@
 -- What the answer to the balance question is: the refusal and zeros, or each of the 16 rows. Assumes nothing.
 use mathlib.Core.Path.{_≡_, refl, ap, _∙_}
-use mathlib.Core.List.{List, [], _∷_}
+use mathlib.Core.List.{List}
 use Prim.Native.Nat.{ℕ, zero, suc, _+_, _-_, _*_, _≤_, _<_}
 use native.Mathlib.Nat.{add-zero, not-suc-le-zero, le-of-suc-le-suc}
 use native.Mathlib.Omega.{arith}
 use borrow.Author.Tests.{lt-ltb, le-ltb}
-use lib.Count.{ones}
 use lib.IntN.{pos, _+ℤ_, -ℤ-+ℤ-cancel}
 use lib.ListN.{length, getD, replicate}
 use Rattle.code.specs.declared.Opened.{Opened}
@@ -13,15 +12,7 @@ use Rattle.code.specs.declared.Refusal.{Refusal}
 use Rattle.code.specs.declared.Standing.{Standing}
 use Rattle.code.specs.declared.Standing.the-variants as standing
 use Rattle.code.specs.Opened.{columnsOf}
-use Rattle.balance.specs.Balance.{sumOf, rowOnes, allOnes, balanceAt, balancesFrom, balancesBy, balancesOf}
-
--- in plain numbers: a data column 7 and four rows, with two ones in row 0 and seven in all, so 4 * 2 - 7
-abbrev four-rows : Opened
-four-rows = record { standing = standing.Accepted; columns = 7 ∷ 1 ∷ 2 ∷ 4 ∷ 8 ∷ []; k = 1; n = 5; rows = 15 }
-
-pub row-0 : getD (balancesOf four-rows .rows) 0 (pos 0) ≡ pos 1
-unfolding balancesFrom balanceAt sumOf ones
-row-0 = refl
+use Rattle.balance.specs.Balance.{rowOnes, allOnes, balanceAt, balancesFrom, balancesBy, balancesOf}
 
 -- ---- any columns
 

@@ -7,7 +7,6 @@ use Prim.Native.Nat.{ℕ, _≤_, _<_}
 use native.Mathlib.Omega.{arith}
 use borrow.Author.Tests.{lt-ltb, le-ltb}
 use lib.Dec.{ltb}
-use Rattle.parity.proofs.Ones.{below-or-not}
 use Rattle.code.specs.declared.Opened.{Opened}
 use Rattle.code.specs.declared.Refusal.{Refusal}
 use Rattle.code.specs.declared.Standing.the-variants as standing
@@ -26,13 +25,6 @@ bare number = record { number = number; told = 0; card = 0; mask = 0 }
 
 abbrev pub weak : ℕ → ℕ → CardCheck
 weak card mask = record { number = 9; told = 0; card = card; mask = mask }
-
-pub sized-or-out : (b : ℕ) → CardSize b ⊎ ((b < 2) ⊎ (8 < b))
-sized-or-out b =
-    ⊎-elim
-    (λ (l : b < 2). inr (inl l))
-    (λ (l : 2 ≤ b). ⊎-elim (λ (h : 8 < b). inr (inr h)) (λ (h : b ≤ 8). inl (record { least = l; top = h })) (below-or-not 8 b))
-    (below-or-not b 2)
 
 -- ---- the n columns
 
@@ -104,18 +96,3 @@ module _ (o : Opened) (b : ℕ) where
               → (cardedOf o b ≡ bare 0) ⊎ ((card : ℕ) × (mask : ℕ) × (cardedOf o b ≡ weak card mask))
           go Nothing h = inl (carded-found Nothing h)
           go (At card mask) h = inr (card, mask, carded-found (At card mask) h)
-
-    -- 8 exactly where b is below 2 or over 8
-    pub eight-exactly : (cardedOf o b .number ≡ 8) ↔ ((b < 2) ⊎ (8 < b))
-    eight-exactly = (
-      λ h.
-          ⊎-elim
-          (λ size.
-          ⊎-elim
-          (λ p. let z : _≡_ {A = ℕ} 0 8 = sym (ap (λ a. a .number) p) ∙ h in absurd (omega arith))
-          (λ w. let z : _≡_ {A = ℕ} 9 8 = sym (ap (λ a. a .number) (w .2)) ∙ h in absurd (omega arith))
-          (proof-or-weak size))
-          (λ out. out)
-          (sized-or-out b),
-      λ out. ap (λ a. a .number) (carded-size out),
-    )

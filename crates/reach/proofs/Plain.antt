@@ -7,11 +7,3 @@ use Rattle.reach.specs.Places.{stands, misnamed, wrongPlaces}
 pub last-place : (wrongPlaces 13 (12 ∷ []) ≡ false) × (wrongPlaces 13 (13 ∷ []) ≡ true)
 unfolding misnamed stands
 last-place = (refl, refl)
-
-pub three-places : (wrongPlaces 13 (2 ∷ 0 ∷ 1 ∷ []) ≡ false) × (wrongPlaces 13 (2 ∷ 0 ∷ 1 ∷ 3 ∷ []) ≡ true)
-unfolding misnamed stands
-three-places = (refl, refl)
-
-pub twice : wrongPlaces 13 (2 ∷ 0 ∷ 2 ∷ []) ≡ true
-unfolding misnamed stands
-twice = refl
