@@ -169,8 +169,9 @@ typedef struct DeskCheckWord {
 
 /*
  * The answer of desk_read: a verdict (0 to 4), a place, the word that is handed back, and the syndrome of the word as
- * read: what desk_write gives for its data, exclusive-ored with its check bits. It is 0 exactly for a clean word, and the
- * column of the place where one bit is mended (for check bit j that is 2^j).
+ * read: the exclusive or of the columns of all set bits. It is 0 exactly for a clean word, and the column of the place
+ * where one bit is mended. In Hsiao's family, where check bit j has the column 2^j, it is what desk_write gives for the
+ * data, exclusive-ored with the check bits.
  */
 typedef struct DeskReadWord {
     size_t number;
@@ -457,9 +458,9 @@ DeskBadPlaces desk_find_bad(DeskCode code, uint64_t first_data, uint16_t first_c
 
 /*
  * The wide edition: codes of up to 128 data bits, words in two halves, records of 18 bytes, entries of 46. Every question
- * that takes a code or makes one, with the refusals of the question above; 1, 12, 13 and 17 read this edition's sizes.
- * The edition belongs to the call: a wide code of 8 data bits has records of 18 bytes, and a code of more than 64 data
- * bits is refused with 1 by the functions above. One image and its journal keep to one edition.
+ * that takes a code or makes one, with the refusals of the question above; 1, 7, 12, 13, 14, 16, 17 and 21 read this
+ * edition's sizes. The edition belongs to the call: a wide code of 8 data bits has records of 18 bytes, and a code of
+ * more than 64 data bits is refused with 1 by the functions above. One image and its journal keep to one edition.
  */
 
 DeskCheckBits desk_wide_check_bits(size_t k);

@@ -1,4 +1,4 @@
--- THE PROOFS of the demands: each named proposition of specs/Demands.antt, in its order. Assumes nothing.
+-- THE PROOFS of the demands: each named proposition of specs/Demands.antt in its order, then of Editions, Rows and Quick. Assumes nothing.
 use mathlib.Core.Path.{refl}
 use Rattle.demands.specs.Demands as demands
 use Rattle.demands.proofs.OfTallies as tallies

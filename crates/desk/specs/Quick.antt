@@ -1,4 +1,5 @@
--- THE QUICK ENGINE (02's request 111): what its pass answers under codes of each family and edition. Assumes nothing.
+-- THE QUICK ENGINE (02's request 111): what its pass answers under codes of each family and edition. Spelled out, and not cited, so that
+-- QuickAsPlain has something to say; what ties them to the engine is each function's equation. Assumes nothing.
 use Rattle.code.specs.declared.Code.{Code}
 use Rattle.code.specs.declared.WideCode.{WideCode}
 use Rattle.code.specs.Opened.{openedOf, openedWide}

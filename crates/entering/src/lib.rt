@@ -1,4 +1,4 @@
-// A listed record is entered and mended: what at_record's `enter` does, by eights.
+// A listed record is entered and mended: what at_record's `enter` does, without a loop.
 ghost use mathlib.Core.Path.{_≡_};
 ghost use Prim.Native.Nat.{_+_, _*_, _/_, _%_, _^_, _≤_, _<_};
 ghost use lib.ListN.{length};
@@ -94,8 +94,8 @@ fn put_left(part: &mut [u8], rec: &[u8], d: usize, at: usize, bits: u8)
     turn_byte(part, at, bits);
 }
 
-// The contract of at_record's `enter`, word for word. The record goes by eights, and the second walk alone calls this, so that it becomes a
-// part of its loop.
+// The contract of at_record's `enter`, word for word. The record is copied without a loop, and the second walk alone calls this, so that it
+// becomes a part of its loop.
 pub fn enter(rec: &mut [u8], entry: &mut [u8], d: usize, k: usize, stamp: u32, n: u16, sight: Sight)
     requires { ⌜ length (now rec) ≡ recordSize d ⌝ }
     requires { ⌜ length (now entry) ≡ entrySize d ⌝ }

@@ -22,7 +22,7 @@ pub fn step_back<'a>(d: usize, image: &mut [u8], reader: Reader<'a>) -> Step
     entry_back::entry_back(d, image, reader.journal, reader.place)
 }
 
-// The same from a journal and a place: the reader is made here, so a caller needs no walk by hand.
+// The same from a journal and a place: the reader is made here, so that no caller's proof has to be done by hand.
 pub fn step_through(d: usize, image: &mut [u8], journal: &[u8], place: usize) -> Step
     requires { ⌜ d ≤ 16 ⌝ }
     requires { ⌜ 0 < place ⌝ }

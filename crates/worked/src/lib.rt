@@ -1,1 +1,2 @@
-// Document 01's worked cases that are marked to be proved: a table in specs/, its claim in proofs/. There is nothing to run here.
+// Document 01's worked cases that are marked to be proved, 02's totals and 002's figures: tables in specs/, their claims in proofs/. There
+// is nothing to run here.
