@@ -46,13 +46,13 @@ same-zero : (a b : ℕ) → (a ≡ 0 → b ≡ 0) → (b ≡ 0 → a ≡ 0) → 
 same-zero zero b f g = sym (eq-eqb b 0 (f refl))
 same-zero (suc a) b f g = ne-eqb (suc a) 0 (λ e. omega (arith, e)) ∙ sym (ne-eqb b 0 (λ e. omega (arith, g e)))
 
-module _ (f : Reader) (ready : Ready f) where
+module _ (halves : Bool) (f : Reader) (ready : Ready f) where
   -- the mark of a record by the tables and the masks of its code
   abbrev pub mark : List ℕ → ℕ
-  mark = markOf (tablesOf (f .columns) (f .k) (f .d)) (f .d) (strayBits (length (f .columns)) (f .k))
+  mark = markOf halves (tablesOf halves (f .columns) (f .k) (f .d)) (f .d) (strayBits (length (f .columns)) (f .k))
 
   abbrev pub looked : List ℕ → ℕ
-  looked rec = lookups (tablesOf (f .columns) (f .k) (f .d)) rec (recordSize (f .d))
+  looked rec = lookups halves (tablesOf halves (f .columns) (f .k) (f .d)) rec (recordSize (f .d))
 
   module _ (rec : List ℕ) (all : AllBytes rec) (size : length rec ≡ recordSize (f .d)) where
     small : Small (wordIn (f .d) rec)
@@ -71,7 +71,7 @@ module _ (f : Reader) (ready : Ready f) where
         let w = wordIn (f .d) rec in
         let n = unmarked (length (f .columns)) (f .k) w small (looked rec) e in
         let z : mix (f .columns) (asNumber (f .k) w) ≡ 0 =
-        sym (mixed-syndrome f rec ready size (n .1)) ∙ sym (looked-mixed f rec all size) ∙ n .0 in
+        sym (mixed-syndrome f rec ready size (n .1)) ∙ sym (looked-mixed halves f rec all size) ∙ n .0 in
         ap (λ v. findingOf v .verdict)
         (in-verdict (f .rows) (f .columns) (f .k) w (n .1) ∙ on-clean (oddIn (f .rows)) (f .columns) (f .k) _ z)
 
@@ -84,7 +84,7 @@ module _ (f : Reader) (ready : Ready f) where
         let n = verdict-none (strayIn (length cs) (f .k) w) (eqb s 0) (ltb (placeIn cs s) (f .k)) (ltb (placeIn cs s) (length cs))
         (eqb (oddIn (f .rows) s) 0) (placeIn cs s) e in
         no-mark (length cs) (f .k) w small (looked rec)
-        (looked-mixed f rec all size ∙ mixed-syndrome f rec ready size (n .0) ∙ eqb-true s 0 (n .1)) (n .0)
+        (looked-mixed halves f rec all size ∙ mixed-syndrome f rec ready size (n .0) ∙ eqb-true s 0 (n .1)) (n .0)
 
     unclean-alike : unclean mark rec ≡ unclean (verdictOf f) rec
     unfolding unclean
@@ -113,5 +113,5 @@ module _ (f : Reader) (ready : Ready f) where
           inside = d .inside;
           marked = λ z. d .marked (clean-mark _ (p .0) (p .1) z);
           order = sym (marks-needed _ (omega (arith, d .inside))) ∙ d .order;
-          told = d .told ∙ looked-mixed f _ (p .0) (p .1);
+          told = d .told ∙ looked-mixed halves f _ (p .0) (p .1);
         }

@@ -55,14 +55,14 @@ struct Seen {
     said: u32,
 }
 
-fn look_at(table: &[u16], d: usize, strays: Word, rec: &[u8], x: usize) -> Seen
-    requires { ⌜ Tabled d (now table) ⌝ }
+fn look_at(table: &[u16], halves: bool, d: usize, strays: Word, rec: &[u8], x: usize) -> Seen
+    requires { ⌜ Tabled halves d (now table) ⌝ }
     requires { ⌜ length (now rec) ≡ recordSize d ⌝ }
     requires { ⌜ x < 65536 ⌝ }
-    ensures { λ a. ⌜ a .mark ≡ markOf (now (table .entry)) d strays (now (rec .entry)) ⌝ }
-    ensures { λ a. ⌜ a .said ≡ saidOf (lookups (now (table .entry)) (now (rec .entry)) (recordSize d)) x ⌝ }
+    ensures { λ a. ⌜ a .mark ≡ markOf halves (now (table .entry)) d strays (now (rec .entry)) ⌝ }
+    ensures { λ a. ⌜ a .said ≡ saidOf (lookups halves (now (table .entry)) (now (rec .entry)) (recordSize d)) x ⌝ }
 {
-    let s = tables::looks(table, rec);
+    let s = tables::looks(table, rec, halves);
     let word = at_record::word_in(d, rec);
     let said = 65536 * s as u32 + x as u32;
     Seen {
@@ -72,13 +72,20 @@ fn look_at(table: &[u16], d: usize, strays: Word, rec: &[u8], x: usize) -> Seen
 }
 
 // The list of the records that are not clean, and how many they are. What is written of a clean one is not counted.
-fn listed(list: &mut [u32], table: &[u16], d: usize, strays: Word, run: &[u8]) -> usize
-    requires { ⌜ Tabled d (now table) ⌝ }
+fn listed(
+    list: &mut [u32],
+    table: &[u16],
+    halves: bool,
+    d: usize,
+    strays: Word,
+    run: &[u8],
+) -> usize
+    requires { ⌜ Tabled halves d (now table) ⌝ }
     requires { ⌜ recordsIn d (now run) ≤ 65536 ⌝ }
     requires { ⌜ recordsIn d (now run) ≤ length (now list) ⌝ }
     ensures { λ bad. ⌜ bad
-        ≡ neededOf (recordSize d) (markOf (now (table .entry)) d strays) (now (run .entry)) (recordsIn d (now (run .entry))) ⌝ }
-    ensures { λ bad. ⌜ Listed d (now (table .entry)) strays (now (run .entry)) (recordsIn d (now (run .entry))) (now (list .exit)) bad ⌝ }
+        ≡ neededOf (recordSize d) (markOf halves (now (table .entry)) d strays) (now (run .entry)) (recordsIn d (now (run .entry))) ⌝ }
+    ensures { λ bad. ⌜ Listed halves d (now (table .entry)) strays (now (run .entry)) (recordsIn d (now (run .entry))) (now (list .exit)) bad ⌝ }
 {
     let size = d + CHECK;
     let n = run.len() / size;
@@ -87,7 +94,7 @@ fn listed(list: &mut [u32], table: &[u16], d: usize, strays: Word, run: &[u8]) -
     while x < n {
         let at = x * size;
         let end = at + size;
-        let seen = look_at(table, d, strays, &run[at..end], x);
+        let seen = look_at(table, halves, d, strays, &run[at..end], x);
         list[bad] = seen.said;
         x += 1;
         if seen.mark != 0 {
@@ -97,20 +104,33 @@ fn listed(list: &mut [u32], table: &[u16], d: usize, strays: Word, run: &[u8]) -
     bad
 }
 
-// The same: the sizes of both editions are named, so that the compiler can do without inner loops.
-pub fn listed_by(list: &mut [u32], table: &[u16], d: usize, strays: Word, run: &[u8]) -> usize
-    requires { ⌜ Tabled d (now table) ⌝ }
+// The same: the sizes of both editions and the kinds of tables are named, so that the compiler can do without inner loops.
+pub fn listed_by(
+    list: &mut [u32],
+    table: &[u16],
+    halves: bool,
+    d: usize,
+    strays: Word,
+    run: &[u8],
+) -> usize
+    requires { ⌜ Tabled halves d (now table) ⌝ }
     requires { ⌜ recordsIn d (now run) ≤ 65536 ⌝ }
     requires { ⌜ recordsIn d (now run) ≤ length (now list) ⌝ }
     ensures { λ bad. ⌜ bad
-        ≡ neededOf (recordSize d) (markOf (now (table .entry)) d strays) (now (run .entry)) (recordsIn d (now (run .entry))) ⌝ }
-    ensures { λ bad. ⌜ Listed d (now (table .entry)) strays (now (run .entry)) (recordsIn d (now (run .entry))) (now (list .exit)) bad ⌝ }
+        ≡ neededOf (recordSize d) (markOf halves (now (table .entry)) d strays) (now (run .entry)) (recordsIn d (now (run .entry))) ⌝ }
+    ensures { λ bad. ⌜ Listed halves d (now (table .entry)) strays (now (run .entry)) (recordsIn d (now (run .entry))) (now (list .exit)) bad ⌝ }
 {
     if d == 8 {
-        return listed(list, table, 8, strays, run);
+        if halves {
+            return listed(list, table, true, 8, strays, run);
+        }
+        return listed(list, table, false, 8, strays, run);
     }
     if d == 16 {
-        return listed(list, table, 16, strays, run);
+        if halves {
+            return listed(list, table, true, 16, strays, run);
+        }
+        return listed(list, table, false, 16, strays, run);
     }
-    listed(list, table, d, strays, run)
+    listed(list, table, halves, d, strays, run)
 }

@@ -1,18 +1,16 @@
 // The quick pass: the plain one's answers, by tables, a list of the records that are not clean, and guessed places.
 ghost use mathlib.Core.Path.{_≡_};
-ghost use Prim.Native.Nat.{_+_, _-_, _≤_};
+ghost use Prim.Native.Nat.{_*_, _-_, _≤_};
 ghost use lib.ListN.{length};
-ghost use Rattle.record.specs.Layout.{recordSize, inBytes, recordsIn};
+ghost use Rattle.record.specs.Layout.{inBytes};
 ghost use Rattle.record.specs.Run.{over};
-ghost use Rattle.record.specs.Journal.{neededOf};
 ghost use Rattle.code.specs.Opened.{Laid};
 ghost use Rattle.at_record.specs.Outcome.{reader, Held, Ready};
-ghost use Rattle.over_run.specs.Whole.{tallyIn, leftIn, entriesBy};
+ghost use Rattle.over_run.specs.Whole.{neededBy, tallyIn, leftIn, entriesBy};
 ghost use Rattle.asked.specs.Pass.{passOver, stateOf, wrongIn};
 ghost use Rattle.pass.specs.Pass.{passIn, afterPass};
-ghost use Rattle.tables.specs.Tables.{tablesOf};
-ghost use Rattle.marks.specs.Marks.{strayBits, markOf, Listed};
-ghost use Rattle.quick.specs.Walks.{Seen, Listing};
+ghost use Rattle.tables.specs.Tables.{valuesIn};
+ghost use Rattle.quick.specs.Walks.{FirstFits, ListedIn, Listing};
 use code::Opened;
 use code::Refusal;
 use code::Standing;
@@ -22,30 +20,54 @@ use pass::PassAnswer;
 use record::CHECK;
 use record::HEAD;
 use record::Tally;
-use tables::VALUES;
 
-// The tables of the longest record.
-const TABLE: usize = 4608;
+// The tables of the longest record, whole bytes or by their halves.
+const WHOLE: usize = 4608;
+
+const HALVES: usize = 576;
+
+// So many records are looked at by halves before the tables of whole bytes are filled.
+const BRIEF: usize = 48;
 
 // The records of a short run, and of the longest.
 const SHORT: usize = 256;
 
 const LONG: usize = 6553;
 
-// The first walk: the records that are not clean are listed, and counted.
-fn first_walk(columns: &[u16], k: usize, d: usize, list: &mut [u32], run: &[u8]) -> usize
-    requires { ⌜ Seen (now columns) k d (now run) (now list) ⌝ }
-    ensures { λ bad. ⌜ bad ≡ neededOf (recordSize d)
-        (markOf (tablesOf (now (columns .entry)) k d) d (strayBits (length (now (columns .entry))) k))
-        (now (run .entry)) (recordsIn d (now (run .entry))) ⌝ }
-    ensures { λ bad. ⌜ Listed d (tablesOf (now (columns .entry)) k d) (strayBits (length (now (columns .entry))) k) (now (run .entry))
-        (recordsIn d (now (run .entry))) (now (list .exit)) bad ⌝ }
+// The first walk, by tables of one kind that are filled into what is lent: the records that are not clean are listed, and counted.
+fn walk_by(
+    table: &mut [u16],
+    halves: bool,
+    columns: &[u16],
+    k: usize,
+    rows: u16,
+    d: usize,
+    list: &mut [u32],
+    run: &[u8],
+) -> usize
+    requires { ⌜ FirstFits (reader (now columns) k rows d) (now run) (now list) ⌝ }
+    requires { ⌜ valuesIn halves * 18 ≤ length (now table) ⌝ }
+    ensures { λ bad. ⌜ bad ≡ neededBy (reader (now (columns .entry)) k rows d) (now (run .entry)) ⌝ }
+    ensures { λ bad. ⌜ ListedIn (reader (now (columns .entry)) k rows d) (now (run .entry)) (now (list .exit)) bad ⌝ }
 {
-    let top = VALUES * (d + CHECK);
-    let mut table = [0u16; TABLE];
-    tables::fill_record(&mut table[0..top], columns, k, d);
+    let top = tables::values(halves) * (d + CHECK);
+    tables::fill_record(&mut table[0..top], columns, k, d, halves);
     let strays = marks::stray_bits(columns.len(), k);
-    marks::listed_by(list, &table[..top], d, strays, run)
+    marks::listed_by(list, &table[..top], halves, d, strays, run)
+}
+
+// The same by the tables that are quicker for so many records.
+fn first_walk(columns: &[u16], k: usize, rows: u16, d: usize, list: &mut [u32], run: &[u8]) -> usize
+    requires { ⌜ FirstFits (reader (now columns) k rows d) (now run) (now list) ⌝ }
+    ensures { λ bad. ⌜ bad ≡ neededBy (reader (now (columns .entry)) k rows d) (now (run .entry)) ⌝ }
+    ensures { λ bad. ⌜ ListedIn (reader (now (columns .entry)) k rows d) (now (run .entry)) (now (list .exit)) bad ⌝ }
+{
+    if run.len() <= BRIEF * (d + CHECK) {
+        let mut brief = [0u16; HALVES];
+        return walk_by(&mut brief, true, columns, k, rows, d, list, run);
+    }
+    let mut table = [0u16; WHOLE];
+    walk_by(&mut table, false, columns, k, rows, d, list, run)
 }
 
 // The second walk: the listed records are mended and entered.
@@ -114,7 +136,7 @@ fn both_walks(
     let step = HEAD + 2 * size;
     let from = start * size;
     let to = end * size;
-    let wanted = first_walk(columns, k, d, list, &image[from..to]);
+    let wanted = first_walk(columns, k, rows, d, list, &image[from..to]);
     if journal.len() / step - used < wanted {
         return pass::refused_pass(Refusal {
             number: 13,

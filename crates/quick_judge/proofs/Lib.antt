@@ -1,1 +1,2 @@
+pub mod Branchless
 pub mod Accepts

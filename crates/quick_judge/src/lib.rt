@@ -30,21 +30,15 @@ fn in_limits(most: usize, k: usize, r: usize) -> bool
     r <= 16
 }
 
-// A column by itself: below 2^r, odd within the rows, and no single one unless these may stand.
+// A column by itself: below 2^r, odd within the rows, and no single one unless these may stand. Without a branch, as most columns are fine.
 fn fine(c: u16, r: usize, rows: u16, singles: bool) -> bool
     requires { ⌜ r ≤ 16 ⌝ }
     ensures { λ b. ⌜ b ≡ fineColumn r rows singles c ⌝ }
 {
-    if faults::too_wide(c, r) {
-        return false;
-    }
-    if !parity::odd(c & rows) {
-        return false;
-    }
-    if singles {
-        return true;
-    }
-    parity::weight(c) != 1
+    let narrow = !faults::too_wide(c, r);
+    let odd = parity::odd(c & rows);
+    let many = parity::weight(c) != 1;
+    narrow & odd & (singles | many)
 }
 
 // The column at i is fine, and no earlier one equals it.
@@ -53,10 +47,8 @@ fn settled(columns: &[u16], guesses: &[u8], r: usize, rows: u16, singles: bool, 
     requires { ⌜ Guessed (now columns) (now guesses) ⌝ }
     ensures { λ b. ⌜ b ≡ settledAt (now (columns .entry)) r rows singles i ⌝ }
 {
-    if guess::own_place(columns, guesses, i) < i {
-        return false;
-    }
-    fine(columns[i], r, rows, singles)
+    let again = guess::own_place(columns, guesses, i) < i;
+    !again & fine(columns[i], r, rows, singles)
 }
 
 // So for all columns.

@@ -20,15 +20,15 @@ use Rattle.marks.proofs.listed.Statement.{statement}
 use Rattle.marks.proofs.listed.Tie as tie
 
 abbrev Inv-loop : tie.InvT-loop
-Inv-loop list₀ table d strays run size n bad₀ x₀ list bad x =
+Inv-loop list₀ table halves d strays run size n bad₀ x₀ list bad x =
     (x ≤ n)
     × (n ≡ recordsIn d run)
-    × (bad ≡ neededOf (recordSize d) (markOf table d strays) run x)
-    × Listed d table strays run x list bad
+    × (bad ≡ neededOf (recordSize d) (markOf halves table d strays) run x)
+    × Listed halves d table strays run x list bad
     × (length list ≡ length list₀)
 
 abbrev μ-loop : tie.MeasureT-loop
-μ-loop list₀ table d strays run size n bad₀ x₀ list bad x = n - x
+μ-loop list₀ table halves d strays run size n bad₀ x₀ list bad x = n - x
 
 -- from the loop's head: the arguments, the mark and the syndrome of a record, the record that is reached
 abbrev start : tie.At-loop Inv-loop μ-loop → tie.Start Inv-loop μ-loop
@@ -38,10 +38,10 @@ abbrev size : tie.At-loop Inv-loop μ-loop → ℕ
 size c = recordSize (start c .args .d)
 
 abbrev mark : tie.At-loop Inv-loop μ-loop → List ℕ → ℕ
-mark c = let a = start c .args in markOf (a .table .now) (a .d) (a .strays)
+mark c = let a = start c .args in markOf (a .halves) (a .table .now) (a .d) (a .strays)
 
 abbrev syndrome : tie.At-loop Inv-loop μ-loop → List ℕ → ℕ
-syndrome c rec = lookups (start c .args .table .now) rec (size c)
+syndrome c rec = lookups (start c .args .halves) (start c .args .table .now) rec (size c)
 
 abbrev rec : tie.At-loop Inv-loop μ-loop → List ℕ
 rec c = recordAt (size c) (start c .args .run .now) (c .loop .x)

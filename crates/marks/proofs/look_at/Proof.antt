@@ -1,15 +1,18 @@
 -- `marks::look_at` meets its contract. Assumes nothing.
 use mathlib.Core.Path.{ap, ap₂, _∙_}
-use Prim.Native.Nat.{ℕ}
+use Prim.Native.Nat.{ℕ, _*_}
+use native.Mathlib.Omega.{arith}
 use Rattle.word.specs.declared.Word.{Word}
-use Rattle.tables.specs.Tables.{lookups}
+use Rattle.tables.specs.Tables.{valuesIn, lookups}
 use Rattle.marks.specs.Marks.{markBy, markOf, saidOf}
 use borrow.Author.Needs.{needs}
 use Rattle.marks.proofs.look_at.Statement.{statement}
 use Rattle.marks.proofs.look_at.Tie as tie
 
 looks-requires : tie.Need-looks-requires
-looks-requires c κs = search needs
+looks-requires c κs =
+    let s = c .before .before in
+    omega (arith, ap (λ (n : ℕ). valuesIn (s .args .halves) * n) (s .pre .1 .0), s .pre .0 .whole)
 
 word-in-requires : tie.Need-word-in-requires
 word-in-requires c κs = search needs
@@ -36,7 +39,7 @@ returns c =
     let l = w .before in
     let s = l .before .before .before in
     let a = s .args in
-    let said = l .looks .ensures ∙ ap (lookups (a .table .now) (a .rec .now)) (s .pre .1 .0) in (
+    let said = l .looks .ensures ∙ ap (lookups (a .halves) (a .table .now) (a .rec .now)) (s .pre .1 .0) in (
       c .mark .ensures ∙ ap₂ (λ (x : ℕ) (v : Word). markBy x v (a .strays)) said (w .word-in .ensures),
       ap (λ (x : ℕ). saidOf x (a .x)) said,
     )

@@ -1,15 +1,13 @@
 -- `quick::both_walks` meets its contract: what has no room is refused, and past that the run and the journal behind the entries in use are
 -- handed on as parts. Assumes nothing.
-use mathlib.Core.Path.{_≡_, refl, sym, ap, ap₂, _∙_}
+use mathlib.Core.Path.{_≡_, refl, ap, ap₂, _∙_}
 use mathlib.Core.List.{List}
 use Prim.Native.Nat.{ℕ, _+_, _-_, _*_, _/_, _%_, _^_, _≤_, _<_}
 use native.Mathlib.Nat.{mul-comm, add-mul, mul-le-mul-right, le-mul-of-pos-right, div-le-self, div-mul-le-self}
 use native.Mathlib.Omega.{arith}
 use borrow.Author.Needs.{needs}
 use lib.ListN.{length}
-use Rattle.record.specs.Bytes.{AllBytes}
 use Rattle.record.specs.Layout.{headSize, recordSize, entrySize, recordsIn, inBytes}
-use Rattle.runs.proofs.Numbers.{bytes-part}
 use Rattle.runs.proofs.Sizes.{whole-fits, run-whole}
 use Rattle.runs.proofs.Journal.{needed-or-clean}
 use Rattle.code.specs.Opened.{refusal}
@@ -21,7 +19,6 @@ use Rattle.asked.proofs.Cases.{right-askable}
 use Rattle.pass.specs.Pass.{neededRun, refusedPass, behind}
 use Rattle.pass.proofs.Cases.{claims, no-room, done}
 use Rattle.pass.proofs.Parts.{part, part-length, part-records, part-needed, part-tally, part-entries, part-left, free-length, free-written}
-use Rattle.marked.proofs.Alike.{marks-needed, list-plain}
 use Rattle.quick.proofs.both_walks.Statement.{statement}
 use Rattle.quick.proofs.both_walks.Tie as tie
 
@@ -67,9 +64,6 @@ run s = part (with s) (s .args .image .now) (s .args .start) (s .args .end) (up 
 records : (s : tie.Start) → recordsIn (s .args .d) (run s) ≡ s .args .end - s .args .start
 records s = part-records (with s) (s .args .image .now) (s .args .start) (s .args .end) (up s) (fits s)
 
-whole : (s : tie.Start) → recordsIn (s .args .d) (run s) * size s ≤ length (run s)
-whole s = whole-fits (size s) (length (run s)) (recordsIn (s .args .d) (run s)) (omega arith)
-
 -- no more entries than records
 few : (s : tie.Start) → neededBy (with s) (run s) ≤ recordsIn (s .args .d) (run s)
 few s = omega (arith, needed-or-clean (size s) (verdictOf (with s)) (run s) (recordsIn (s .args .d) (run s)))
@@ -91,23 +85,11 @@ from c = c .before .before .before .before
 abbrev counted : tie.Else1 → tie.After-first-walk
 counted c = c .before .before .before
 
-bytes : (c : tie.After-slice-known3) → AllBytes (run (start c))
-bytes c =
-    let s = start c in
-    let a = s .args in
-    bytes-part (a .start * size s) (a .end * size s - a .start * size s) (a .image .now)
-    (λ k. omega (arith, c .before .slice-known2 .given k))
-
-as-plain : (c : tie.After-first-walk) → c .first-walk .result ≡ neededBy (with (start (from c))) (run (start (from c)))
-as-plain c =
-    let s = start (from c) in
-    c .first-walk .ensures .0 ∙ marks-needed (with s) (s .pre .0) (run s) (bytes (from c)) _ (whole s) _ (omega arith)
-
 wanted : (c : tie.After-first-walk)
     → let s = start (from c) in c .first-walk .result ≡ neededRun (with s) (s .args .image .now) (s .args .start) (s .args .end)
 wanted c =
     let s = start (from c) in
-    as-plain c ∙ part-needed (with s) (s .args .image .now) (s .args .start) (s .args .end) (up s) (fits s)
+    c .first-walk .ensures .0 ∙ part-needed (with s) (s .args .image .now) (s .args .start) (s .args .end) (up s) (fits s)
 
 both : (c : tie.Else1) → let s = start (from (counted c)) in
     (s .args .used + counted c .first-walk .result) * step s ≤ length (s .args .journal .now)
@@ -153,10 +135,7 @@ first-walk-requires c κs =
     let long = asked s .records .short in
     let few = asked s .run .within in
     record {
-      parts = ready .parts;
-      checks = ready .checks;
-      least = ready .held .least;
-      most = ready .held .most;
+      ready = ready;
       numbered =
           omega (arith, records s, few, long, div-le-self (length (s .args .image .now)) (size s), div-mul-le-self 65535 (size s));
       room = omega (arith, records s, s .pre .1 .1);
@@ -226,14 +205,13 @@ second-walk-requires c κs =
               free,
               both e,
               add-mul (a .used) m (step s),
-              ap₂ _*_ (step-is s) (as-plain n),
+              ap₂ _*_ (step-is s) (n .first-walk .ensures .0),
               mul-comm (step s) m,
             );
       };
-      count = as-plain n;
-      inside = omega (arith, as-plain n, few s, records s, s .pre .1 .1, e .before .before .list .given);
-      listed = list-plain (with s) ready (run s) (bytes (from n)) _ (whole s) (n .first-walk .last .1 .1 .1 .0) m
-          (n .first-walk .ensures .1);
+      count = n .first-walk .ensures .0;
+      inside = omega (arith, n .first-walk .ensures .0, few s, records s, s .pre .1 .1, e .before .before .list .given);
+      listed = n .first-walk .ensures .1;
     }
 
 add-t21 : tie.Need-add-t21

@@ -1,100 +1,104 @@
--- `tables::fill_byte` meets its contract. The invariant: the table holds the mixes of the first i columns. Assumes nothing.
-use mathlib.Core.Path.{_≡_, refl, sym, ap, _∙_}
-use mathlib.Core.List.{List, []}
-use Prim.Native.Nat.{ℕ, _+_, _-_, _^_, _≤_}
-use native.Mathlib.Nat.{pow-suc}
-use native.Mathlib.Numerals.{add-one}
+-- `tables::fill_byte` meets its contract. Assumes nothing.
+use mathlib.Core.Path.{_≡_, sym, ap, ap₂, _∙_}
+use mathlib.Core.Bool.{Bool}
+use mathlib.Core.List.{List, _++_}
+use Prim.Native.Nat.{ℕ, _+_}
 use native.Mathlib.Omega.{arith}
-use lib.ListN.{length, take, drop, length-set}
-use lib.Pow.{pow-mono}
-use lib.Seq.{take-all, getD-drop}
+use lib.ListN.{length, take, drop}
+use lib.Seq.{drop-drop}
 use Rattle.columns.specs.Mix.{mix}
-use Rattle.tables.specs.Tables.{upTo}
-use Rattle.tables.proofs.UpTo.{first-value}
-use Rattle.tables.proofs.Octets.{one-more}
+use Rattle.tables.specs.Tables.{upTo, byteTable, valuesIn}
+use Rattle.tables.proofs.UpTo.{length-upTo}
+use Rattle.tables.proofs.Lookups.{halves-filled}
 use borrow.Author.Needs.{needs}
 use Rattle.tables.proofs.fill_byte.Statement.{statement}
 use Rattle.tables.proofs.fill_byte.Tie as tie
 
-abbrev Inv-loop : tie.InvT-loop
-Inv-loop table₀ columns at size₀ i₀ table size i =
-    (i ≤ 8) × (size ≡ 2 ^ i) × (take size table ≡ upTo (mix (take i (drop at columns))) size) × (length table ≡ 256)
+abbrev start : tie.Then1 → tie.Start
+start c = c .before .before .before
 
-abbrev μ-loop : tie.MeasureT-loop
-μ-loop table₀ columns at size₀ i₀ table size i = 8 - i
+-- by halves there are 32 values
+long : (c : tie.Then1) → length (start c .args .table .now) ≡ 32
+long c = start c .pre .0 ∙ ap (λ (h : Bool). valuesIn h) (c .if1 .taken)
 
--- in a turn there is room for twice the size
-room : (c : tie.In-loop Inv-loop μ-loop) → c .before .loop .size + c .before .loop .size ≤ 256
-room c = omega (arith, c .before .loop .inv .1, pow-mono {i = c .before .loop .i} {j = 7} (omega arith))
+sub-fill-values : tie.Need-sub-fill-values
+sub-fill-values c = search needs
 
-slice-write-table : tie.Need-slice-write-table Inv-loop μ-loop
-slice-write-table c = search needs
+part-fill-values-start : tie.Need-part-fill-values-start
+part-fill-values-start c = search needs
 
-loop-holds : tie.Need-loop-holds Inv-loop μ-loop
-unfolding mix
-loop-holds c =
-    let a = c .before .before .args in
-    let long = c .before .before .pre .0 in
-    (omega arith, refl, first-value (a .table .now) (mix []) (omega (arith, long)) refl, simp length-set long)
+part-fill-values-end : tie.Need-part-fill-values-end
+part-fill-values-end c = omega (arith, long c)
 
-add-column-or-none : tie.Need-add-column-or-none Inv-loop μ-loop
-add-column-or-none c = search needs
+fill-values-requires : tie.Need-fill-values-requires
+fill-values-requires c κs = search needs
 
-column-or-none-requires : tie.Need-column-or-none-requires Inv-loop μ-loop
-column-or-none-requires c κs = search needs
+sub-fill-values-2 : tie.Need-sub-fill-values-2
+sub-fill-values-2 c = search needs
 
-fill-bit-requires : tie.Need-fill-bit-requires Inv-loop μ-loop
-fill-bit-requires c κs = omega (arith, room (c .before .before))
+part-fill-values-start-2 : tie.Need-part-fill-values-start-2
+part-fill-values-start-2 c = search needs
 
-add-size : tie.Need-add-size Inv-loop μ-loop
-add-size c = omega (arith, room (c .before .before .before .before .before))
+part-fill-values-end-2 : tie.Need-part-fill-values-end-2
+part-fill-values-end-2 c = omega (arith, c .before .table .given, long (c .before .before .before .before))
 
-add-i : tie.Need-add-i Inv-loop μ-loop
-add-i c = search needs
+add-fill-values : tie.Need-add-fill-values
+add-fill-values c = search needs
 
-loop-less : tie.Need-loop-less Inv-loop μ-loop
-loop-less c = search needs
+fill-values-requires-2 : tie.Need-fill-values-requires-2
+fill-values-requires-2 c κs = search needs
 
-loop-again : tie.Need-loop-again Inv-loop μ-loop
-loop-again c =
-    let f = c .before .before in
-    let n = f .before .before in
-    let h = n .before .before in
-    let m = h .loop in
-    let a = h .before .before .before .args in
-    let l : List ℕ = drop (a .at) (a .columns .now) in
-    let column = n .column-or-none .ensures ∙ sym (getD-drop (a .at) (a .columns .now) (m .i) 0) in (
-      omega arith,
-      omega (arith, m .inv .1, pow-suc 2 (m .i), ap (λ n. 2 ^ n) (add-one (m .i))),
-      rw (add-one (m .i))
-          (one-more l (m .i) (m .size) _ (m .table) (f .fill-bit .last .0) (m .inv .1) column (m .inv .2) (f .fill-bit .ensures)),
-      c .before .table .given ∙ m .inv .3,
-    )
+fill-values-requires-3 : tie.Need-fill-values-requires-3
+fill-values-requires-3 c κs =
+    let e = c .before in
+    let s = e .before .before .before in
+    ((omega arith, s .pre .0 ∙ ap (λ (h : Bool). valuesIn h) (e .if1 .left)), s .pre .1)
 
-same-length : tie.Need-same-length Inv-loop μ-loop
+same-length : tie.Need-same-length
 same-length c = search needs
 
-returns : tie.Need-returns Inv-loop μ-loop
+returns : tie.Need-returns
 returns c =
-    let m = c .before .loop in
-    let e : m .i ≡ 8 = omega arith in
-    let size : m .size ≡ 256 = m .inv .1 ∙ ap (λ n. 2 ^ n) e in
-    sym (take-all 256 (m .table) (omega (arith, m .inv .3))) ∙ (rw (size, e) at (m .inv .2))
+    let g = c .before .before in
+    let f = g .before .before .before .before in
+    let t = f .before .before in
+    let a = start t .args in
+    let cs : List ℕ = drop (a .at) (a .columns .now) in
+    let x = f .fill-values .last .0 in
+    let y = g .fill-values2 .last .0 in
+    let low : x ≡ upTo (mix (take 4 cs)) 16 = f .fill-values .ensures in
+    let high : y ≡ upTo (mix (take 4 (drop 4 cs))) 16 =
+    g .fill-values2 .ensures ∙ ap (λ (l : List ℕ). upTo (mix (take 4 l)) 16) (sym (drop-drop 4 (a .at) (a .columns .now))) in
+    halves-filled (a .table .now) x y (long t) (ap length low ∙ length-upTo (mix (take 4 cs)) 16)
+    (ap length high ∙ length-upTo (mix (take 4 (drop 4 cs))) 16)
+    ∙ ap₂ _++_ low high
+    ∙ sym (ap (λ (h : Bool). byteTable h cs) (t .if1 .taken))
+
+same-length-2 : tie.Need-same-length-2
+same-length-2 c = search needs
+
+returns-2 : tie.Need-returns-2
+returns-2 c =
+    let f = c .before .before in
+    let e = f .before .before in
+    let a = e .before .before .before .args in
+    f .fill-values3 .ensures ∙ sym (ap (λ (h : Bool). byteTable h (drop (a .at) (a .columns .now))) (e .if1 .left))
 
 pub fill-byte-spec : {M : Type 1} → statement M
 fill-byte-spec =
     tie.close
     (tie.spec
-    Inv-loop
-    μ-loop
-    slice-write-table
-    loop-holds
-    add-column-or-none
-    column-or-none-requires
-    fill-bit-requires
-    add-size
-    add-i
-    loop-less
-    loop-again
+    sub-fill-values
+    part-fill-values-start
+    part-fill-values-end
+    fill-values-requires
+    sub-fill-values-2
+    part-fill-values-start-2
+    part-fill-values-end-2
+    add-fill-values
+    fill-values-requires-2
+    fill-values-requires-3
     same-length
-    returns)
+    returns
+    same-length-2
+    returns-2)
