@@ -582,13 +582,14 @@ extern "C" {
 macro_rules! ask {
     ($function:ident($($argument:expr),*)) => {{
         version::compared();
+        // SAFETY: see above; the archive keeps no pointer after a call (c/check: it has no variables) and does not unwind.
         unsafe { $function($($argument),*) }
     }};
 }
 
 /// The version of the archive, to be compared with [`VERSION`](crate::VERSION); every other function here does so.
 pub fn version() -> usize {
-    // Safe, since this function is the same in every version.
+    // SAFETY: this function is the same in every version.
     unsafe { desk_version() }
 }
 

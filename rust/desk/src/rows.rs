@@ -61,7 +61,7 @@ impl RowCode {
         done(answer.number, answer.told, answer.rows)
     }
 
-    /// The check bits that go with the data: those for which every row counts an even number of ones, and no others do.
+    /// The check bits that go with the data: the only ones with which every row counts an even number of ones.
     ///
     /// ```
     /// use desk::{Code, RowCode};
@@ -305,7 +305,7 @@ impl WideRowCode {
         done(answer.number, answer.told, answer.rows)
     }
 
-    /// The check bits that go with the data: those for which every row counts an even number of ones, and no others do.
+    /// The check bits that go with the data: the only ones with which every row counts an even number of ones.
     ///
     /// ```
     /// use desk::{WideCode, WideRowCode};
