@@ -889,8 +889,9 @@ fn the_worked_cases_notice_every_easy_way_to_go_wrong_and_every_byte() {
     let bytes = [RefusedListIsWritten, ListTailIsCleared, RefusedPassIsNoted, NothingIsMended];
     let amended = [CardsRunStraightOn, DataCardIsJoined, CheckCardsAreLeftOut, CheckCardsFromZero];
     let made = [FiveBeforeThree, LargerNumberFirst, ColumnLeftOut, LeftoverIsMade, RoomForOneLess, RoomForOneMore];
-    let ways = ways.into_iter().chain(bytes).chain(amended).chain(made).chain(STAMPS).chain(TOLD).chain(ENTERED);
-    for fault in ways.chain(BACK).chain(DAMAGED_BACK).chain(BAD).chain(FOUND) {
+    let leftovers = [LeftoversAreJudged, LeftoversAreIgnored, OnlyTheNextPlaceIsSeen, LastPlaceIsNotSeen];
+    let ways = ways.into_iter().chain(bytes).chain(amended).chain(made).chain(leftovers);
+    for fault in ways.chain(STAMPS).chain(TOLD).chain(ENTERED).chain(BACK).chain(DAMAGED_BACK).chain(BAD).chain(FOUND) {
         assert!(!worked(&Sloppy(fault)).is_empty(), "{:?}", fault);
     }
 }
