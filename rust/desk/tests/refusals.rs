@@ -146,4 +146,6 @@ fn a_code_is_judged_by_every_question() {
 fn a_refusal_is_an_error() {
     let error: Box<dyn std::error::Error> = Box::new(Refusal::WeakCard { card: 1, mask: 7 });
     assert_eq!(error.to_string(), "refused 9: card 1 is weak at mask 7");
+    let says = Refusal::JournalRoom { needed: 2 }.to_string();
+    assert_eq!(says, "refused 13: the pass needs room for 2 entries behind those in use");
 }
