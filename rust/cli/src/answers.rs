@@ -82,6 +82,11 @@ fn told(refusal: Refusal) -> Value {
     }
 }
 
+/// What to do about 18.
+const TOGETHER: &str =
+    "check that image and journal belong together; the record of that entry was changed after the pass, \
+    or the entry was. docs/DISPUTES.md says how to look further.";
+
 /// What a person can do about a refusal.
 fn advice(refusal: Refusal) -> &'static str {
     match refusal {
@@ -110,10 +115,7 @@ fn advice(refusal: Refusal) -> &'static str {
         Refusal::ColumnRoom => "take more check bits; `desk code make K` takes as many as K data bits want.",
         Refusal::Stamp => "give a stamp that is not below the last entry's, or look at this machine's clock.",
         Refusal::CountInUse => "check that journal and image are of one edition.",
-        Refusal::Mismatch { .. } => {
-            "check that image and journal belong together; the record of that entry was changed after the pass, \
-             or the entry was. docs/DISPUTES.md says how to look further."
-        }
+        Refusal::Mismatch { .. } => TOGETHER,
         Refusal::Sheet => {
             "give 1 to 65,535 devices and words, no more mended than words, hours above zero, \
              and limits of zero or more, the low one first."
