@@ -236,6 +236,16 @@ fn refused_pass(number: usize, image: &mut [u8], journal: &mut [u8], before: (Ve
 }
 
 impl Sloppy {
+    /// Whether this desk refuses a stamp that the document lets pass.
+    fn refuses_stamp(&self, stamp: u32, used: usize, is_used: bool, first: u32, last: u32) -> bool {
+        match self.0 {
+            FirstStampIsCompared => is_used && stamp < first,
+            EqualStampIsRefused => is_used && stamp == last,
+            StampIsTriedWithNoneUsed => used == 0 && stamp < first,
+            _ => false,
+        }
+    }
+
     /// A pass as this desk takes stamps and the count in use.
     fn pass_by_the_count(&self, code: &Code, image: &mut [u8], journal: &mut [u8], asked: &Pass) -> Passed {
         let Pass { used, stamp, .. } = *asked;
@@ -244,13 +254,7 @@ impl Sloppy {
         let stamp_at = |entry: usize| before.1.get(30 * entry..30 * entry + 4).map_or(0, stamp_of);
         let (first, last) = (stamp_at(0), if is_used { stamp_at(used - 1) } else { 0 });
         let mut answer = pass(code, image, journal, asked);
-        let is_refused = match self.0 {
-            FirstStampIsCompared => is_used && stamp < first,
-            EqualStampIsRefused => is_used && stamp == last,
-            StampIsTriedWithNoneUsed => used == 0 && stamp < first,
-            _ => false,
-        };
-        if is_refused && matches!(answer.number, 0 | 13) {
+        if matches!(answer.number, 0 | 13) && self.refuses_stamp(stamp, used, is_used, first, last) {
             return refused_pass(16, image, journal, before);
         }
         let new = 30 * used.min(room)..30 * answer.used.max(used.min(room));
