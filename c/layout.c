@@ -8,7 +8,7 @@
 #define FIELD(name, field) \
     printf(#name "." #field " at %zu size %zu\n", offsetof(Desk##name, field), sizeof(((Desk##name *)0)->field))
 
-int main(void) {
+static void sizes(void) {
     SIZE(VERSION);
     SIZE(RECORD);
     SIZE(ENTRY);
@@ -20,6 +20,9 @@ int main(void) {
     SIZE(WIDE_ENTRY);
     SIZE(WIDE_IMAGE);
     SIZE(WIDE_LONGEST_LIST);
+}
+
+static void codes_and_words(void) {
     STRUCT(Code);
     FIELD(Code, columns);
     FIELD(Code, k);
@@ -55,6 +58,9 @@ int main(void) {
     FIELD(CardCheck, told);
     FIELD(CardCheck, card);
     FIELD(CardCheck, mask);
+}
+
+static void passes_and_sheets(void) {
     STRUCT(Tally);
     FIELD(Tally, clean);
     FIELD(Tally, data);
@@ -83,6 +89,9 @@ int main(void) {
     STRUCT(Made);
     FIELD(Made, number);
     FIELD(Made, code);
+}
+
+static void bytes_and_bad_places(void) {
     STRUCT(ByteNumber);
     STRUCT(ByteWriting);
     FIELD(ByteWriting, number);
@@ -104,6 +113,9 @@ int main(void) {
     FIELD(BadPlaces, told);
     FIELD(BadPlaces, data);
     FIELD(BadPlaces, check);
+}
+
+static void wide(void) {
     STRUCT(WideCode);
     FIELD(WideCode, columns);
     FIELD(WideCode, k);
@@ -130,6 +142,9 @@ int main(void) {
     FIELD(WideBadPlaces, number);
     FIELD(WideBadPlaces, told);
     FIELD(WideBadPlaces, word);
+}
+
+static void with_rows(void) {
     STRUCT(RowCode);
     FIELD(RowCode, columns);
     FIELD(RowCode, n);
@@ -140,5 +155,14 @@ int main(void) {
     FIELD(WideRowCode, n);
     FIELD(WideRowCode, r);
     FIELD(WideRowCode, rows);
+}
+
+int main(void) {
+    sizes();
+    codes_and_words();
+    passes_and_sheets();
+    bytes_and_bad_places();
+    wide();
+    with_rows();
     return 0;
 }

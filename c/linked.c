@@ -37,6 +37,10 @@ static int same_read(DeskReadWord a, size_t number, size_t told, size_t verdict,
            a.check == check && a.syndrome == syndrome;
 }
 
+static int same_rows(DeskRowBalance a, size_t number, size_t told, const int32_t rows[DESK_ROWS]) {
+    return a.number == number && a.told == told && memcmp(a.rows, rows, sizeof a.rows) == 0;
+}
+
 static int same_tally(DeskTally t, size_t clean, size_t data, size_t check, size_t even, size_t odd, size_t stray) {
     return t.clean == clean && t.data == data && t.check == check && t.even == even && t.odd == odd && t.stray == stray;
 }
@@ -51,13 +55,9 @@ static void code_fields(void) {
     expect("desk_check_bits: every field", bits.number == 0 && bits.bits == 8);
     DeskJudgement told = desk_judge(repeated());
     expect("desk_judge: every field", told.number == 6 && told.told == 5);
-    DeskRowBalance balance = desk_row_balance(sixteen_rows());
-    expect("desk_row_balance: every row",
-           balance.number == 0 && balance.told == 0 && memcmp(balance.rows, rows, sizeof rows) == 0);
+    expect("desk_row_balance: every row", same_rows(desk_row_balance(sixteen_rows()), 0, 0, rows));
     static const int32_t zeros[DESK_ROWS];
-    balance = desk_row_balance(repeated());
-    expect("desk_row_balance: refused",
-           balance.number == 6 && balance.told == 5 && memcmp(balance.rows, zeros, sizeof zeros) == 0);
+    expect("desk_row_balance: refused", same_rows(desk_row_balance(repeated()), 6, 5, zeros));
 }
 
 static void word_fields(void) {
@@ -534,6 +534,11 @@ static DeskWideCode widest(void) {
     return desk_wide_make(128, 9).code;
 }
 
+/* The sample in 128 places. */
+static DeskWideCode wide_sample(void) {
+    return (DeskWideCode){.columns = {28, 26, 25, 22, 21, 19, 14, 13}, .k = 8, .r = 5};
+}
+
 /* A record: data in two halves and check bits, low byte first. */
 static void put_wide_record(uint8_t *record, uint64_t low, uint64_t high, uint16_t check) {
     put_record(record, low, 0);
@@ -564,25 +569,33 @@ static void wide_code_fields(void) {
     code.columns[127] = code.columns[5];
     told = desk_wide_judge(code);
     expect("desk_wide_judge: every field", told.number == DESK_REPEATED_COLUMN && told.told == 127);
-    DeskRowBalance balance = desk_wide_row_balance(code);
-    expect("desk_wide_row_balance: refused", balance.number == 6 && balance.told == 127 && balance.rows[0] == 0);
-    balance = desk_wide_row_balance(widest());
-    int32_t sum = 0;
-    for (size_t row = 0; row < DESK_ROWS; row++) {
-        sum += balance.rows[row];
-    }
-    expect("desk_wide_row_balance: every row", balance.number == 0 && balance.rows[0] != 0 && sum == 0);
+    static const int32_t none[DESK_ROWS];
+    expect("desk_wide_row_balance: refused", same_rows(desk_wide_row_balance(code), 6, 127, none));
     code = widest();
     code.k = 127;
     told = desk_wide_judge(code);
     expect("desk_wide_judge: the last place is left over", told.number == DESK_LEFTOVER && told.told == 127);
 }
 
+static void wide_balances(void) {
+    static const int32_t rows[DESK_ROWS] = {-4, -4, 1, 1, 6};
+    expect("desk_wide_row_balance: every row of the sample in 128 places",
+           same_rows(desk_wide_row_balance(wide_sample()), 0, 0, rows));
+    DeskRowBalance balance = desk_wide_row_balance(widest());
+    int32_t sum = 0;
+    for (size_t row = 0; row < DESK_ROWS; row++) {
+        sum += balance.rows[row];
+    }
+    expect("desk_wide_row_balance: those of 137 columns add up to 0",
+           balance.number == 0 && balance.rows[0] != 0 && sum == 0);
+}
+
 static void wide_word_fields(void) {
     const uint64_t low = 0x8877665544332211, high = 0xFFEEDDCCBBAA9988, one = 1;
     DeskWideCode code = widest();
-    DeskCheckWord written = desk_wide_write(code, low, high);
-    expect("desk_wide_write: every field", written.number == 0 && written.told == 0 && written.check < 512);
+    DeskCheckWord written = desk_wide_write(code, 0, one << 63);
+    expect("desk_wide_write: every field", written.number == 0 && written.told == 0 && written.check == 217);
+    written = desk_wide_write(code, low, high);
     expect("desk_wide_read: clean",
            same_wide(desk_wide_read(code, low, high, written.check), 0, 0, 0, 255, low, high, written.check, 0));
     expect("desk_wide_read: place 63", same_wide(desk_wide_read(code, low ^ one << 63, high, written.check), 0, 0, 1, 63,
@@ -631,61 +644,79 @@ static void wide_lists_and_cards(void) {
     expect("desk_wide_explain: the longest list has 72 entries", a.number == 0 && a.told == 0 && a.length == 72);
     expect("desk_wide_explain: its first and its last pair",
            list[0] == 0 && list[1] == 130 && list[142] == 128 && list[143] == 129);
-    DeskWideCode sample = {.columns = {28, 26, 25, 22, 21, 19, 14, 13}, .k = 8, .r = 5};
-    DeskCardCheck cards = desk_wide_cards(sample, 3);
+    DeskCardCheck cards = desk_wide_cards(wide_sample(), 3);
     expect("desk_wide_cards: every field", cards.number == 9 && cards.told == 0 && cards.card == 1 && cards.mask == 7);
     cards = desk_wide_cards(widest(), 9);
     expect("desk_wide_cards: refused", cards.number == DESK_CARD_SIZE && cards.card == 0 && cards.mask == 0);
 }
 
-static void wide_passes(void) {
-    enum { GUARD = 64, IMAGE = 5 * DESK_WIDE_RECORD, JOURNAL = 5 * DESK_WIDE_ENTRY + 7 };
+/* Five records under the code of 120 data bits and 8 check bits, a journal, and guards about both. */
+typedef struct WideLent {
+    uint8_t before[64], image[5 * DESK_WIDE_RECORD], between[64], journal[5 * DESK_WIDE_ENTRY + 7], behind[64];
+} WideLent;
+
+/* Clean, data bit 119 flipped, check bit 7, a flip in each half, a stray bit in the high half. */
+static void lend_wide(WideLent *lent) {
     const uint64_t one = 1;
-    uint8_t lent[GUARD + IMAGE + GUARD + JOURNAL + GUARD];
-    uint8_t *image = lent + GUARD, *journal = image + IMAGE + GUARD;
-    memset(lent, 0xEE, sizeof lent);
-    DeskWideCode code = desk_wide_make(120, 8).code;
-    put_wide_record(image, 0, 0, 0);
-    put_wide_record(image + DESK_WIDE_RECORD, 0, one << 55, 0);
-    put_wide_record(image + 2 * DESK_WIDE_RECORD, 0, 0, 128);
-    put_wide_record(image + 3 * DESK_WIDE_RECORD, one << 63, one, 0);
-    put_wide_record(image + 4 * DESK_WIDE_RECORD, 0, one << 56, 0);
-    DeskPassAnswer a = desk_wide_pass(code, image, IMAGE, 0, 5, journal, 4 * DESK_WIDE_ENTRY - 1, 0, 1);
+    memset(lent, 0xEE, sizeof *lent);
+    put_wide_record(lent->image, 0, 0, 0);
+    put_wide_record(lent->image + DESK_WIDE_RECORD, 0, one << 55, 0);
+    put_wide_record(lent->image + 2 * DESK_WIDE_RECORD, 0, 0, 128);
+    put_wide_record(lent->image + 3 * DESK_WIDE_RECORD, one << 63, one, 0);
+    put_wide_record(lent->image + 4 * DESK_WIDE_RECORD, 0, one << 56, 0);
+}
+
+/* A pass over records 0 up to `end` of `length` bytes. */
+static DeskPassAnswer pass_wide(WideLent *lent, size_t length, size_t end, size_t room, size_t used, uint32_t stamp) {
+    return desk_wide_pass(desk_wide_make(120, 8).code, lent->image, length, 0, end, lent->journal, room, used, stamp);
+}
+
+static void wide_passes(void) {
+    WideLent lent;
+    enum { IMAGE = sizeof lent.image, JOURNAL = sizeof lent.journal };
+    lend_wide(&lent);
+    DeskPassAnswer a = pass_wide(&lent, IMAGE, 5, 4 * DESK_WIDE_ENTRY - 1, 0, 1);
     expect("desk_wide_pass: refused by 13", a.number == 13 && a.told == 4 && a.used == 0 &&
                                                 same_tally(a.tally, 0, 0, 0, 0, 0, 0) &&
-                                                is_filled(journal, JOURNAL, 0xEE));
-    a = desk_wide_pass(code, image, IMAGE, 0, 5, journal, JOURNAL, 0, 0x04030201);
+                                                is_filled(lent.journal, JOURNAL, 0xEE));
+    a = pass_wide(&lent, IMAGE, 5, JOURNAL, 0, 0x04030201);
     expect("desk_wide_pass: every field",
            a.number == 0 && a.told == 0 && a.used == 4 && same_tally(a.tally, 1, 1, 1, 1, 0, 1));
     static const uint8_t first[] = {1, 2, 3, 4, 1, 0, DESK_DATA, 119, 254, 0};
-    expect("desk_wide_pass: the first entry", memcmp(journal, first, sizeof first) == 0 && journal[10 + 14] == 0x80 &&
-                                                  journal[10 + 18 + 14] == 0);
+    expect("desk_wide_pass: the first entry", memcmp(lent.journal, first, sizeof first) == 0 &&
+                                                  lent.journal[10 + 14] == 0x80 && lent.journal[10 + 18 + 14] == 0);
     static const uint8_t last[] = {1, 2, 3, 4, 4, 0, DESK_STRAY, DESK_NO_PLACE, 0, 0};
-    expect("desk_wide_pass: the last entry", memcmp(journal + 3 * DESK_WIDE_ENTRY, last, sizeof last) == 0);
+    expect("desk_wide_pass: the last entry", memcmp(lent.journal + 3 * DESK_WIDE_ENTRY, last, sizeof last) == 0);
     expect("desk_wide_pass: two records are mended",
-           is_filled(image, 3 * DESK_WIDE_RECORD, 0) && image[3 * DESK_WIDE_RECORD + 7] == 0x80);
+           is_filled(lent.image, 3 * DESK_WIDE_RECORD, 0) && lent.image[3 * DESK_WIDE_RECORD + 7] == 0x80);
     expect("desk_wide_pass: bytes past the entries and guards stay",
-           is_filled(journal + 4 * DESK_WIDE_ENTRY, DESK_WIDE_ENTRY + 7 + GUARD, 0xEE) &&
-               is_filled(lent, GUARD, 0xEE) && is_filled(image + IMAGE, GUARD, 0xEE));
-    DeskPutBack back = desk_wide_put_back(image, IMAGE, journal, JOURNAL, 4);
-    expect("desk_wide_put_back: every field", back.number == 0 && back.told == 0 && back.count == 4);
-    expect("desk_wide_put_back: the image as it was read",
-           image[DESK_WIDE_RECORD + 14] == 0x80 && image[2 * DESK_WIDE_RECORD + 16] == 128);
-    back = desk_wide_put_back(image, IMAGE, journal, 2 * DESK_WIDE_ENTRY, 2);
+           is_filled(lent.journal + 4 * DESK_WIDE_ENTRY, DESK_WIDE_ENTRY + 7, 0xEE) &&
+               is_filled(lent.before, 64, 0xEE) && is_filled(lent.between, 64, 0xEE) &&
+               is_filled(lent.behind, 64, 0xEE));
+    expect("desk_wide_pass: refused by 16", pass_wide(&lent, IMAGE, 5, JOURNAL, 4, 0x04030200).number == DESK_STAMP);
+    expect("desk_wide_pass: refused by 17",
+           pass_wide(&lent, IMAGE, 5, JOURNAL, 6, UINT32_MAX).number == DESK_COUNT_IN_USE);
+    expect("desk_wide_pass: refused by 14", pass_wide(&lent, IMAGE, 6, JOURNAL, 0, 0).number == DESK_RUN);
+    expect("desk_wide_pass: records of ten bytes are refused by 12",
+           pass_wide(&lent, 5 * DESK_RECORD, 1, JOURNAL, 0, 0).number == DESK_IMAGE_LENGTH);
+}
+
+static void wide_backs(void) {
+    WideLent lent, as_read;
+    enum { IMAGE = sizeof lent.image, JOURNAL = sizeof lent.journal };
+    lend_wide(&lent);
+    lend_wide(&as_read);
+    pass_wide(&lent, IMAGE, 5, JOURNAL, 0, 0x04030201);
+    expect("desk_wide_put_back: every field",
+           same_back(desk_wide_put_back(lent.image, IMAGE, lent.journal, JOURNAL, 4), 0, 4));
+    expect("desk_wide_put_back: the image as it was read", memcmp(lent.image, as_read.image, IMAGE) == 0);
     expect("desk_wide_put_back: it stops at a record that does not match",
-           back.number == 18 && back.told == 0 && back.count == 0);
-    back = desk_wide_put_back(image, IMAGE, journal, 4 * DESK_ENTRY, 4);
-    expect("desk_wide_put_back: refused by 17", back.number == DESK_COUNT_IN_USE && back.count == 0);
-    back = desk_wide_put_back(image, 5 * DESK_RECORD, journal, JOURNAL, 4);
-    expect("desk_wide_put_back: refused by 12", back.number == DESK_IMAGE_LENGTH && back.count == 0);
-    a = desk_wide_pass(code, image, IMAGE, 0, 5, journal, JOURNAL, 4, 0x04030200);
-    expect("desk_wide_pass: refused by 16", a.number == DESK_STAMP);
-    a = desk_wide_pass(code, image, IMAGE, 0, 5, journal, JOURNAL, 6, UINT32_MAX);
-    expect("desk_wide_pass: refused by 17", a.number == DESK_COUNT_IN_USE);
-    a = desk_wide_pass(code, image, IMAGE, 0, 6, journal, JOURNAL, 0, 0);
-    expect("desk_wide_pass: refused by 14", a.number == DESK_RUN);
-    a = desk_wide_pass(code, image, 5 * DESK_RECORD, 0, 1, journal, JOURNAL, 0, 0);
-    expect("desk_wide_pass: records of ten bytes are refused by 12", a.number == DESK_IMAGE_LENGTH);
+           same_back(desk_wide_put_back(lent.image, IMAGE, lent.journal, 2 * DESK_WIDE_ENTRY, 2), 18, 0));
+    expect("desk_wide_put_back: refused by 17",
+           same_back(desk_wide_put_back(lent.image, IMAGE, lent.journal, 4 * DESK_ENTRY, 4), DESK_COUNT_IN_USE, 0));
+    expect("desk_wide_put_back: refused by 12",
+           same_back(desk_wide_put_back(lent.image, 5 * DESK_RECORD, lent.journal, JOURNAL, 4), DESK_IMAGE_LENGTH, 0));
+    expect("desk_wide_put_back: a refusal leaves the image", memcmp(lent.image, as_read.image, IMAGE) == 0);
 }
 
 static int same_wide_word(size_t number, size_t told, DeskWideWord a, size_t refused, size_t place, uint64_t low,
@@ -762,7 +793,22 @@ static DeskWideRowCode wide_rows_of_figure_3(void) {
     return code;
 }
 
-static void row_fields(void) {
+/* Figure 3's row balances. */
+static const int32_t balances_of_figure_3[DESK_ROWS] = {-3, -3, 2, 2, 2};
+
+static int same_written_check(DeskCheckWord a, size_t number, size_t told, uint16_t check) {
+    return a.number == number && a.told == told && a.check == check;
+}
+
+static int same_cards(DeskCardCheck a, size_t number, size_t told, size_t card, size_t mask) {
+    return a.number == number && a.told == told && a.card == card && a.mask == mask;
+}
+
+static int same_list(DeskListing a, size_t number, size_t told, size_t length) {
+    return a.number == number && a.told == told && a.length == length;
+}
+
+static void row_judges(void) {
     DeskRowCode code = rows_of_figure_3();
     DeskJudgement told = desk_rows_judge(code);
     expect("desk_rows_judge: accepted", told.number == DESK_DONE && told.told == 0);
@@ -773,68 +819,65 @@ static void row_fields(void) {
     code.rows = 31;
     told = desk_rows_judge(code);
     expect("desk_rows_judge: the set is seen", told.number == DESK_ROW_SET && told.told == 4);
-    code = rows_of_figure_3();
+    DeskWideRowCode wide = wide_rows_of_figure_3();
+    told = desk_wide_rows_judge(wide);
+    expect("desk_wide_rows_judge: accepted", told.number == DESK_DONE && told.told == 0);
+    wide.columns[143] = 1;
+    told = desk_wide_rows_judge(wide);
+    expect("desk_wide_rows_judge: the last place is seen", told.number == DESK_LEFTOVER && told.told == 143);
+}
 
-    DeskRowBalance balance = desk_rows_row_balance(code);
-    expect("desk_rows_row_balance: every field", balance.number == 0 && balance.rows[0] == -3 && balance.rows[4] == 2 &&
-                                                     balance.rows[5] == 0 && balance.rows[15] == 0);
-    DeskCheckWord written = desk_rows_write(code, 0xFF);
-    expect("desk_rows_write: every field", written.number == 0 && written.told == 0 && written.check == 12);
-    DeskReadWord read = desk_rows_read(code, 0x03, 28);
-    expect("desk_rows_read: every field", read.number == 0 && read.verdict == DESK_DATA && read.place == 1 &&
-                                              read.data == 1 && read.check == 28 && read.syndrome == 14);
+static void row_fields(void) {
+    static const size_t bad[] = {1};
+    DeskRowCode code = rows_of_figure_3();
+    expect("desk_rows_row_balance: every row", same_rows(desk_rows_row_balance(code), 0, 0, balances_of_figure_3));
+    expect("desk_rows_write: every field", same_written_check(desk_rows_write(code, 0xFF), 0, 0, 12));
+    expect("desk_rows_read: every field",
+           same_read(desk_rows_read(code, 0x03, 28), 0, 0, DESK_DATA, 1, 1, 28, 14));
     uint8_t list[4] = {7, 7, 7, 7};
-    DeskListing listing = desk_rows_explain(code, 0x03, 28, 1, list, 3);
-    expect("desk_rows_explain: every field and byte", listing.number == 0 && listing.length == 1 && list[0] == 1 &&
-                                                          list[1] == DESK_NO_PLACE && list[2] == 7 && list[3] == 7);
-    DeskCardCheck cards = desk_rows_cards(code, 4);
-    expect("desk_rows_cards: every field", cards.number == DESK_WEAK_CARD && cards.card == 0 && cards.mask == 7);
+    expect("desk_rows_explain: every field and byte",
+           same_list(desk_rows_explain(code, 0x03, 28, 1, list, 3), 0, 0, 1) &&
+               memcmp(list, (const uint8_t[]){1, DESK_NO_PLACE, 7, 7}, 4) == 0);
+    expect("desk_rows_cards: every field", same_cards(desk_rows_cards(code, 4), DESK_WEAK_CARD, 0, 0, 7));
     uint8_t image[DESK_RECORD] = {3, 0, 0, 0, 0, 0, 0, 0, 28, 0}, journal[DESK_ENTRY] = {0};
     DeskPassAnswer passed = desk_rows_pass(code, image, sizeof image, 0, 1, journal, sizeof journal, 0, 9);
-    expect("desk_rows_pass: every field", passed.number == 0 && passed.used == 1 && passed.tally.data == 1);
-    expect("desk_rows_pass: image and journal", image[0] == 1 && journal[0] == 9 && journal[6] == DESK_DATA &&
-                                                    journal[7] == 1 && journal[8] == 14 && journal[20] == 1);
-    static const size_t bad[] = {1};
-    DeskRecovered recovered = desk_rows_recover(code, 0x02, 28, bad, 1);
-    expect("desk_rows_recover: every field", recovered.number == 0 && recovered.data == 1 && recovered.check == 28);
-    DeskBadPlaces found = desk_rows_find_bad(code, 0xFE, 29, 0, 0);
-    expect("desk_rows_find_bad: every field", found.number == 0 && found.data == 1 && found.check == 2);
+    expect("desk_rows_pass: every field",
+           passed.number == 0 && passed.told == 0 && passed.used == 1 && same_tally(passed.tally, 0, 1, 0, 0, 0, 0));
+    static const uint8_t entry[DESK_ENTRY] = {
+        [0] = 9, [6] = DESK_DATA, [7] = 1, [8] = 14, [10] = 3, [18] = 28, [20] = 1, [28] = 28};
+    expect("desk_rows_pass: image and journal",
+           memcmp(image, entry + 20, sizeof image) == 0 && memcmp(journal, entry, sizeof journal) == 0);
+    expect("desk_rows_recover: every field", same_word(desk_rows_recover(code, 0x02, 28, bad, 1), 0, 0, 1, 28));
+    expect("desk_rows_find_bad: every field", same_places(desk_rows_find_bad(code, 0xFE, 29, 0, 0), 0, 0, 1, 2));
 }
 
 static void wide_row_fields(void) {
-    DeskWideRowCode code = wide_rows_of_figure_3();
-    DeskJudgement told = desk_wide_rows_judge(code);
-    expect("desk_wide_rows_judge: accepted", told.number == DESK_DONE && told.told == 0);
-    code.columns[143] = 1;
-    told = desk_wide_rows_judge(code);
-    expect("desk_wide_rows_judge: the last place is seen", told.number == DESK_LEFTOVER && told.told == 143);
-    code = wide_rows_of_figure_3();
-
-    DeskRowBalance balance = desk_wide_rows_row_balance(code);
-    expect("desk_wide_rows_row_balance: every field", balance.number == 0 && balance.rows[0] == -3);
-    DeskCheckWord written = desk_wide_rows_write(code, 0xFF, 0);
-    expect("desk_wide_rows_write: every field", written.number == 0 && written.check == 12);
-    written = desk_wide_rows_write(code, 0xFF, 1);
-    expect("desk_wide_rows_write: the high half is seen", written.number == DESK_STRAY_BITS && written.check == 0);
-    DeskWideReadWord read = desk_wide_rows_read(code, 0x03, 0, 28);
-    expect("desk_wide_rows_read: every field", read.number == 0 && read.verdict == DESK_DATA && read.place == 1 &&
-                                                   read.word.low == 1 && read.word.high == 0 && read.word.check == 28);
-    uint8_t list[2];
-    DeskListing listing = desk_wide_rows_explain(code, 0x03, 0, 28, 1, list, 2);
-    expect("desk_wide_rows_explain: every field", listing.number == 0 && listing.length == 1 && list[0] == 1);
-    DeskCardCheck cards = desk_wide_rows_cards(code, 4);
-    expect("desk_wide_rows_cards: every field", cards.number == DESK_WEAK_CARD && cards.card == 0 && cards.mask == 7);
-    uint8_t image[DESK_WIDE_RECORD] = {3}, journal[DESK_WIDE_ENTRY] = {0};
-    image[16] = 28;
-    DeskPassAnswer passed = desk_wide_rows_pass(code, image, sizeof image, 0, 1, journal, sizeof journal, 0, 9);
-    expect("desk_wide_rows_pass: image, journal and tally",
-           passed.number == 0 && passed.used == 1 && passed.tally.data == 1 && image[0] == 1 && journal[10] == 3);
     static const size_t bad[] = {1};
-    DeskWideRecovered recovered = desk_wide_rows_recover(code, 0x02, 0, 28, bad, 1);
+    DeskWideRowCode code = wide_rows_of_figure_3();
+    expect("desk_wide_rows_row_balance: every row",
+           same_rows(desk_wide_rows_row_balance(code), 0, 0, balances_of_figure_3));
+    expect("desk_wide_rows_write: every field", same_written_check(desk_wide_rows_write(code, 0xFF, 0), 0, 0, 12));
+    expect("desk_wide_rows_write: the high half is seen",
+           same_written_check(desk_wide_rows_write(code, 0xFF, 1), DESK_STRAY_BITS, 0, 0));
+    expect("desk_wide_rows_read: every field",
+           same_wide(desk_wide_rows_read(code, 0x03, 0, 28), 0, 0, DESK_DATA, 1, 1, 0, 28, 14));
+    uint8_t list[4] = {7, 7, 7, 7};
+    expect("desk_wide_rows_explain: every field and byte",
+           same_list(desk_wide_rows_explain(code, 0x03, 0, 28, 1, list, 3), 0, 0, 1) &&
+               memcmp(list, (const uint8_t[]){1, DESK_NO_PLACE, 7, 7}, 4) == 0);
+    expect("desk_wide_rows_cards: every field", same_cards(desk_wide_rows_cards(code, 4), DESK_WEAK_CARD, 0, 0, 7));
+    uint8_t image[DESK_WIDE_RECORD] = {[0] = 3, [16] = 28}, journal[DESK_WIDE_ENTRY] = {0};
+    DeskPassAnswer passed = desk_wide_rows_pass(code, image, sizeof image, 0, 1, journal, sizeof journal, 0, 9);
+    expect("desk_wide_rows_pass: every field",
+           passed.number == 0 && passed.told == 0 && passed.used == 1 && same_tally(passed.tally, 0, 1, 0, 0, 0, 0));
+    static const uint8_t entry[DESK_WIDE_ENTRY] = {
+        [0] = 9, [6] = DESK_DATA, [7] = 1, [8] = 14, [10] = 3, [26] = 28, [28] = 1, [44] = 28};
+    expect("desk_wide_rows_pass: image and journal",
+           memcmp(image, entry + 28, sizeof image) == 0 && memcmp(journal, entry, sizeof journal) == 0);
     expect("desk_wide_rows_recover: every field",
-           recovered.number == 0 && recovered.word.low == 1 && recovered.word.high == 0 && recovered.word.check == 28);
-    DeskWideBadPlaces found = desk_wide_rows_find_bad(code, (DeskWideWord){0xFE, 0, 29}, (DeskWideWord){0, 0, 0});
-    expect("desk_wide_rows_find_bad: every field", found.number == 0 && found.word.low == 1 && found.word.check == 2);
+           recovers(desk_wide_rows_recover(code, 0x02, 0, 28, bad, 1), 0, 0, 1, 0, 28));
+    expect("desk_wide_rows_find_bad: every field",
+           finds(desk_wide_rows_find_bad(code, (DeskWideWord){0xFE, 0, 29}, (DeskWideWord){0, 0, 0}), 0, 0, 1, 0, 2));
 }
 
 /* Figures 1 and 2 define the same words; figure 2 is the sample code. */
@@ -902,11 +945,8 @@ static void lend(Lent *lent, size_t size, size_t entry) {
     } while (0)
 
 static void quick_passes(void) {
-    static const uint16_t columns[] = {28, 26, 25, 22, 21, 19, 14, 13};
-    DeskWideCode wide = {{0}, 8, 5};
-    memcpy(wide.columns, columns, sizeof columns);
     QUICK_RUNS(desk_pass, desk_quick_pass, sample(), DESK_RECORD, DESK_ENTRY);
-    QUICK_RUNS(desk_wide_pass, desk_wide_quick_pass, wide, DESK_WIDE_RECORD, DESK_WIDE_ENTRY);
+    QUICK_RUNS(desk_wide_pass, desk_wide_quick_pass, wide_sample(), DESK_WIDE_RECORD, DESK_WIDE_ENTRY);
     QUICK_RUNS(desk_rows_pass, desk_rows_quick_pass, rows_of_figure_3(), DESK_RECORD, DESK_ENTRY);
     QUICK_RUNS(desk_wide_rows_pass, desk_wide_rows_quick_pass, wide_rows_of_figure_3(), DESK_WIDE_RECORD,
                DESK_WIDE_ENTRY);
@@ -934,11 +974,14 @@ int main(void) {
     bad_fields();
     bad_refusals();
     wide_code_fields();
+    wide_balances();
     wide_word_fields();
     wide_lists_and_cards();
     wide_passes();
+    wide_backs();
     wide_bad_places();
     longest_wide_image();
+    row_judges();
     row_fields();
     wide_row_fields();
     same_check_bits();

@@ -82,6 +82,11 @@ fn told(refusal: Refusal) -> Value {
     }
 }
 
+/// What to do about 18.
+const TOGETHER: &str =
+    "check that image and journal belong together; the record of that entry was changed after the pass, \
+    or the entry was. docs/DISPUTES.md says how to look further.";
+
 /// What a person can do about a refusal.
 fn advice(refusal: Refusal) -> &'static str {
     match refusal {
@@ -105,15 +110,12 @@ fn advice(refusal: Refusal) -> &'static str {
             "check that this is the image, whole, and that the code's edition is the image's: \
              edition 64 has records of 10 bytes, at most 6,553 of them, edition 128 of 18 bytes, at most 3,640."
         }
-        Refusal::JournalRoom { .. } => "give the journal room for as many entries more.",
+        Refusal::JournalRoom { .. } => "give the journal room for so many behind those in use.",
         Refusal::Run => "give a run A..B of records that the image has: from A on, B not included.",
         Refusal::ColumnRoom => "take more check bits; `desk code make K` takes as many as K data bits want.",
         Refusal::Stamp => "give a stamp that is not below the last entry's, or look at this machine's clock.",
         Refusal::CountInUse => "check that journal and image are of one edition.",
-        Refusal::Mismatch { .. } => {
-            "check that image and journal belong together; the record of that entry was changed after the pass, \
-             or the entry was. docs/DISPUTES.md says how to look further."
-        }
+        Refusal::Mismatch { .. } => TOGETHER,
         Refusal::Sheet => {
             "give 1 to 65,535 devices and words, no more mended than words, hours above zero, \
              and limits of zero or more, the low one first."
@@ -130,7 +132,10 @@ fn row_advice(reason: usize) -> &'static str {
     match reason {
         1 => "name one row at least in `rows`, each below r.",
         2 => "choose another column for the one that is 0 or equals another.",
-        3 => "the last r columns are the check bits': column j of them has a one in row j, and none in a row of a lower number.",
+        3 => {
+            "the last r columns are the check bits': column j of them has a one in row j; and either none has a one \
+             in a row of a lower number than its own, or none in a row of a higher one."
+        }
         _ => "every column must have an odd count of ones within the rows that `rows` names: turn a digit, or name other rows.",
     }
 }

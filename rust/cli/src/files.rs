@@ -5,10 +5,10 @@ use fs2::FileExt;
 use std::ffi::OsString;
 use std::fs::{self, File, OpenOptions, Permissions};
 use std::io::{self, Read, Seek, Write};
-use std::os::unix::fs::{MetadataExt, PermissionsExt};
+use std::os::unix::fs::{MetadataExt, OpenOptionsExt, PermissionsExt};
 use std::path::{Path, PathBuf};
 use std::sync::atomic::{AtomicUsize, Ordering};
-use tempfile::NamedTempFile;
+use tempfile::TempPath;
 
 /// The longest journal or code file that is read.
 pub const LONGEST: u64 = 1 << 28;
@@ -77,54 +77,69 @@ fn folder(path: &Path) -> &Path {
 
 /// Bytes that stand beside their place, written and synced, and are put there in one step.
 pub struct Draft {
-    file: NamedTempFile,
+    draft: TempPath,
     path: PathBuf,
 }
 
 impl Draft {
-    /// The path is `real`. A file that is there already keeps its permissions, and must not be read-only.
+    /// The path is `real`. A file that is there already keeps its permissions, and must not be read-only; a new one gets
+    /// those that the umask leaves.
     pub fn new(path: &Path, bytes: &[u8]) -> Answer<Draft> {
         let no = |error: io::Error| cannot("written", path.display(), error);
-        let permissions = match fs::metadata(path) {
+        let kept = match fs::metadata(path) {
             Ok(about) if !about.is_file() => return Err(No::Files(format!("{} is no plain file", path.display()))),
             Ok(about) if about.permissions().readonly() => {
                 return Err(No::Files(format!("{} is read-only: nothing was changed", path.display())))
             }
-            Ok(about) => about.permissions(),
-            Err(_) => Permissions::from_mode(0o644),
+            Ok(about) => Some(about.permissions()),
+            Err(_) => None,
         };
-        Draft::written(path, bytes, permissions).map_err(no)
+        Draft::written(path, bytes, kept).map_err(no)
     }
 
-    fn written(path: &Path, bytes: &[u8], permissions: Permissions) -> io::Result<Draft> {
-        let prefix = beside(path, ".", DRAFT);
+    fn written(path: &Path, bytes: &[u8], kept: Option<Permissions>) -> io::Result<Draft> {
         step("make a draft", path)?;
-        let mut file = tempfile::Builder::new().prefix(&prefix).tempfile_in(folder(path))?;
+        // Never more open than the file whose place it takes, while it is written too.
+        let (mut file, draft) = made(path, kept.as_ref().map_or(0o666, |kept| kept.mode() & 0o777))?;
         let (first, second) = bytes.split_at(bytes.len() / 2);
         for half in [first, second] {
             step("write a half", path)?;
             file.write_all(half)?;
         }
-        step("set the permissions", path)?;
-        file.as_file().set_permissions(permissions)?;
+        if let Some(kept) = kept {
+            step("set the permissions", path)?;
+            file.set_permissions(kept)?;
+        }
         step("sync the draft", path)?;
-        file.as_file().sync_all()?;
-        Ok(Draft { file, path: path.to_path_buf() })
+        file.sync_all()?;
+        Ok(Draft { draft, path: path.to_path_buf() })
     }
 
     /// Puts it in its place.
     pub fn put(self) -> Answer<()> {
-        let Draft { file, path } = self;
+        let Draft { draft, path } = self;
         let no = |error: io::Error| cannot("replaced", path.display(), error);
         step("rename the draft", &path).map_err(no)?;
-        file.persist(&path).map_err(|error| no(error.error))?;
+        draft.persist(&path).map_err(|error| no(error.error))?;
         step("sync the folder", &path).map_err(no)?;
         File::open(folder(&path)).and_then(|folder| folder.sync_all()).map_err(no)
     }
 }
 
-/// What stands in the name of every draft, after the name of the file that it is of.
+/// What stands in the name of every draft, after the name of the file that it is of and before a number.
 const DRAFT: &str = ".desk-draft-";
+
+/// A new file beside a path, of this mode less the umask; it is removed where it is not put in a place.
+fn made(path: &Path, mode: u32) -> io::Result<(File, TempPath)> {
+    let mut number = u64::from(std::process::id());
+    loop {
+        let draft = path.with_file_name(beside(path, ".", &format!("{}{}", DRAFT, number)));
+        match OpenOptions::new().write(true).create_new(true).mode(mode).open(&draft) {
+            Err(error) if error.kind() == io::ErrorKind::AlreadyExists => number += 1,
+            opened => return Ok((opened?, TempPath::from_path(draft))),
+        }
+    }
+}
 
 /// Writes a new file in one step. One that is there is replaced only where that was asked for, and never one of `kept`.
 pub fn write_new(path: &Path, bytes: &[u8], replace: bool, kept: &[&Path]) -> Answer<()> {

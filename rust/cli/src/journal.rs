@@ -6,11 +6,11 @@ use crate::files;
 use crate::progress::Progress;
 use desk::Verdict;
 use serde_json::{json, Value};
-use std::collections::HashMap;
+use std::collections::{HashMap, HashSet};
 use std::fmt::Write;
 use std::path::Path;
 
-/// One entry; verdict and place are the plain bytes, whatever they are.
+/// One entry; the verdict is the plain byte, whatever it is. The place is told from the bytes.
 #[derive(Clone, Copy)]
 pub struct Entry<'a> {
     pub stamp: u32,
@@ -176,15 +176,19 @@ pub enum Standing {
     Broken(usize),
 }
 
+/// The first entry that found its record with other bytes than the entry before it had left.
+fn broken(entries: &[Entry]) -> Option<usize> {
+    let mut last: HashMap<usize, &[u8]> = HashMap::new();
+    entries.iter().position(|entry| last.insert(entry.record, entry.after).map_or(false, |left| left != entry.before))
+}
+
 /// Finds the greatest count of entries, from the first on, that leaves the image as it is.
 pub fn standing(image: &[u8], entries: &[Entry], edition: Edition) -> Standing {
-    let record = |number: usize| image.chunks_exact(edition.record()).nth(number);
-    let mut last: HashMap<usize, &[u8]> = HashMap::new();
-    for (number, entry) in entries.iter().enumerate() {
-        if last.insert(entry.record, entry.after).map_or(false, |left| left != entry.before) {
-            return Standing::Broken(number);
-        }
+    if let Some(number) = broken(entries) {
+        return Standing::Broken(number);
     }
+    let record = |number: usize| image.chunks_exact(edition.record()).nth(number);
+    let last: HashMap<usize, &[u8]> = entries.iter().map(|entry| (entry.record, entry.after)).collect();
     let mut wrong: Vec<usize> =
         last.iter().filter(|(&number, &left)| record(number) != Some(left)).map(|(&number, _)| number).collect();
     wrong.sort_unstable();
@@ -192,7 +196,9 @@ pub fn standing(image: &[u8], entries: &[Entry], edition: Edition) -> Standing {
         Some(&first) => first,
         None => return Standing::Level,
     };
-    let mut wrong: std::collections::HashSet<usize> = wrong.into_iter().collect();
+    let mut wrong: HashSet<usize> = wrong.into_iter().collect();
+    // Backwards: `wrong` has the records that differ from what the entries before `count` leave; where it is empty, the image
+    // stands there.
     for (count, entry) in entries.iter().enumerate().rev() {
         if record(entry.record) == Some(entry.before) {
             wrong.remove(&entry.record);

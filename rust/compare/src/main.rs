@@ -1,7 +1,8 @@
 //! The comparison: the same cases to the second program and to the linked desk, every number and every byte.
 //!
-//! `compare gate`: every question of the archive, by its own numbers and through the wrapper; each refusal must be met at
-//! least a hundred times.
+//! `compare gate`: every question of the archive, by its own numbers and through the wrapper. Each refusal must be met at
+//! least a hundred times in each family and each edition that has it: Hsiao's codes, wide ones, codes with a set of rows and
+//! wide ones of those are counted apart, and so is each reason of refusal 20. What takes no code is counted with Hsiao's.
 //! `compare mend`: the program, on whole images.
 //! `--times N` goes over the gate's amounts N times, each from a seed of its own; `--seed S` names the first seed.
 
@@ -18,11 +19,8 @@ use std::time::Instant;
 
 const USAGE: &str = "compare gate | mend  [--times N] [--seed S]";
 
-/// How often the gate meets each refusal at least.
+/// How often the gate meets each refusal of a kind at least.
 const OFTEN: usize = 100;
-
-/// The refusal of a sheet, which has no code and no edition.
-const SHEET: usize = 19;
 
 /// The refusals that the desk has: the numbers of docs/refusals.txt.
 fn refusals() -> impl Iterator<Item = usize> {
@@ -50,31 +48,54 @@ fn asked(mut words: impl Iterator<Item = String>) -> Option<Asked> {
     Some(asked)
 }
 
-/// How many cases agreed, how many did not, and how often each number was answered.
+/// How many cases agreed, how many did not, and how often each number was answered of each kind.
 #[derive(Default)]
 struct Counts {
     passed: usize,
     failed: usize,
-    met: BTreeMap<(Edition, usize), usize>,
+    met: BTreeMap<(Kind, usize), usize>,
 }
 
-/// Which edition is asked; what has none is asked with the first.
+/// A family in an edition. What has no code is asked with Hsiao's, what has no edition either with the first.
 #[derive(Clone, Copy, PartialEq, Eq, PartialOrd, Ord)]
-enum Edition {
-    TenBytes,
-    Wide,
+enum Kind {
+    Hsiao,
+    WideHsiao,
+    Rows,
+    WideRows,
+}
+
+impl Kind {
+    const EACH: [Kind; 4] = [Kind::Hsiao, Kind::WideHsiao, Kind::Rows, Kind::WideRows];
+
+    fn name(self) -> &'static str {
+        ["codes", "wide codes", "codes with a set of rows", "wide codes with a set of rows"][self as usize]
+    }
+
+    /// Whether questions of this kind are refused by this number.
+    fn has(self, number: usize) -> bool {
+        let has_rows = matches!(self, Kind::Rows | Kind::WideRows);
+        match number {
+            // The columns of Hsiao's codes, their maker, and the put-back.
+            4..=6 | 15 | 18 => !has_rows,
+            // The sheet.
+            19 => self == Kind::Hsiao,
+            20 => has_rows,
+            _ => true,
+        }
+    }
 }
 
 impl Counts {
     /// Counts what the comparison of some desks gave, of which some questions may be left out.
-    fn compared(&mut self, edition: Edition, lines: Compared, wanted: impl Fn(&str) -> bool) {
+    fn compared(&mut self, kind: Kind, lines: Compared, wanted: impl Fn(&str) -> bool) {
         match lines {
             Ok(lines) => {
                 for line in lines.iter().filter(|line| wanted(line.question)) {
                     println!("{}", line);
                     self.passed += line.cases;
                     for (&number, &count) in &line.numbers {
-                        *self.met.entry((edition, number)).or_insert(0) += count;
+                        *self.met.entry((kind, number)).or_insert(0) += count;
                     }
                 }
             }
@@ -83,6 +104,13 @@ impl Counts {
                 self.failed += 1;
             }
         }
+    }
+
+    /// Whether a number was met often enough.
+    fn met_often(&mut self, kind: Kind, number: usize, name: &str) {
+        let met = self.met.get(&(kind, number)).copied().unwrap_or(0);
+        let often = if met < OFTEN { "seldom" } else { "often" };
+        self.expect(&format!("{} of {} is met {} times", name, kind.name(), met), often, "often");
     }
 
     /// One printed case.
@@ -103,17 +131,17 @@ type Compared = Result<Vec<Line>, Box<Difference>>;
 /// A part of the gate's comparison, that of the second program, the archive and the wrapper.
 struct Part {
     name: &'static str,
-    edition: Edition,
+    kind: Kind,
     compared: fn(&Amounts) -> Compared,
 }
 
 /// Every question of the archive, in both editions and families. They are compared at the same time.
 const PARTS: [Part; 5] = [
-    Part { name: "the ten-byte edition", edition: Edition::TenBytes, compared: ten_bytes },
-    Part { name: "the ten-byte edition, across", edition: Edition::TenBytes, compared: across },
-    Part { name: "the wide edition", edition: Edition::Wide, compared: wide },
-    Part { name: "codes with a set of rows", edition: Edition::TenBytes, compared: rows },
-    Part { name: "codes with a set of rows in the wide edition", edition: Edition::Wide, compared: wide_rows },
+    Part { name: "the ten-byte edition", kind: Kind::Hsiao, compared: ten_bytes },
+    Part { name: "the ten-byte edition, across", kind: Kind::Hsiao, compared: across },
+    Part { name: "the wide edition", kind: Kind::WideHsiao, compared: wide },
+    Part { name: "codes with a set of rows", kind: Kind::Rows, compared: rows },
+    Part { name: "codes with a set of rows in the wide edition", kind: Kind::WideRows, compared: wide_rows },
 ];
 
 fn ten_bytes(amounts: &Amounts) -> Compared {
@@ -142,28 +170,21 @@ fn gate(asked: &Asked, counts: &mut Counts) {
     for seed in asked.seed..asked.seed + asked.times {
         let amounts = &Amounts { seed, inputs: 0, ..Amounts::GATE };
         thread::scope(|scope| {
-            let running = PARTS.map(|part| (part.name, part.edition, scope.spawn(move || (part.compared)(amounts))));
-            for (name, edition, compared) in running {
+            let running = PARTS.map(|part| (part.name, part.kind, scope.spawn(move || (part.compared)(amounts))));
+            for (name, kind, compared) in running {
                 println!("seed {}, {}: second, archive, wrapper", seed, name);
                 let lines = compared.join().unwrap_or_else(|panic| std::panic::resume_unwind(panic));
-                counts.compared(edition, lines, |question| question != "mend");
+                counts.compared(kind, lines, |question| question != "mend");
             }
         });
     }
-    let mut met_in = |number: usize, edition: Edition, name: &str| {
-        let met = counts.met.get(&(edition, number)).copied().unwrap_or(0);
-        let often = if met < OFTEN { "seldom" } else { "often" };
-        counts.expect(&format!("{} is met {} times", name, met), often, "often");
-    };
-    for number in refusals() {
-        met_in(number, Edition::TenBytes, &format!("refusal {}", number));
-        if number != SHEET {
-            met_in(number, Edition::Wide, &format!("refusal {} in the wide edition", number));
+    for kind in Kind::EACH {
+        for number in refusals().filter(|&number| kind.has(number)) {
+            counts.met_often(kind, number, &format!("refusal {}", number));
         }
-    }
-    for reason in 1..=4 {
-        met_in(reason_number(reason), Edition::TenBytes, &format!("refusal 20 by reason {}", reason));
-        met_in(reason_number(reason), Edition::Wide, &format!("refusal 20 by reason {} in the wide edition", reason));
+        for reason in (1..=4).filter(|_| kind.has(20)) {
+            counts.met_often(kind, reason_number(reason), &format!("refusal 20 by reason {}", reason));
+        }
     }
 }
 
@@ -186,7 +207,7 @@ fn mend(asked: &Asked, counts: &mut Counts) {
     for seed in asked.seed..asked.seed + asked.times {
         println!("seed {}: second, program", seed);
         let lines = compare(&[&Second, &Archive], &Amounts { seed, ..none });
-        counts.compared(Edition::TenBytes, lines, |question| question == "mend");
+        counts.compared(Kind::Hsiao, lines, |question| question == "mend");
     }
 }
 

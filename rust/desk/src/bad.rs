@@ -1,6 +1,6 @@
 //! Places known to be bad, and how they are found.
 
-use crate::code::done;
+use crate::code::{done, places};
 use crate::{ffi, Code, Refusal, Word};
 
 impl Code {
@@ -75,8 +75,6 @@ impl Code {
     /// # Ok::<(), desk::Refusal>(())
     /// ```
     pub fn places(&self, word: Word) -> Vec<usize> {
-        let data = (0..64).filter(|&i| word.data >> i & 1 == 1);
-        let check = (0..16).filter(|&j| word.check >> j & 1 == 1);
-        data.chain(check.map(|j| self.k.saturating_add(j))).collect()
+        places(word.data.into(), word.check, self.k)
     }
 }

@@ -21,6 +21,13 @@ pub(crate) fn entries(list: &[u8], length: usize) -> Vec<Explanation> {
     list.chunks_exact(2).take(length).map(|entry| Explanation::of([entry[0], entry[1]])).collect()
 }
 
+/// The places at which a word of `k` data bits has ones, rising.
+pub(crate) fn places(data: u128, check: u16, k: usize) -> Vec<usize> {
+    let data = (0..128).filter(|&i| data >> i & 1 == 1);
+    let check = (0..16).filter(|&j| check >> j & 1 == 1);
+    data.chain(check.map(|j| k.saturating_add(j))).collect()
+}
+
 /// The smallest number of check bits for which a code of `k` data bits exists.
 ///
 /// ```

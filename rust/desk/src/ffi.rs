@@ -392,28 +392,6 @@ extern "C" {
     fn desk_read(code: Code, data: u64, check: u16) -> ReadWord;
     fn desk_explain(code: Code, data: u64, check: u16, limit: usize, list: *mut u8, list_length: usize) -> Listing;
     fn desk_cards(code: Code, b: usize) -> CardCheck;
-    fn desk_pass(
-        code: Code,
-        image: *mut u8,
-        image_length: usize,
-        start: usize,
-        end: usize,
-        journal: *mut u8,
-        journal_length: usize,
-        used: usize,
-        stamp: u32,
-    ) -> PassAnswer;
-    fn desk_quick_pass(
-        code: Code,
-        image: *mut u8,
-        image_length: usize,
-        start: usize,
-        end: usize,
-        journal: *mut u8,
-        journal_length: usize,
-        used: usize,
-        stamp: u32,
-    ) -> PassAnswer;
     fn desk_put_back(
         image: *mut u8,
         image_length: usize,
@@ -445,28 +423,6 @@ extern "C" {
         list_length: usize,
     ) -> Listing;
     fn desk_wide_cards(code: WideCode, b: usize) -> CardCheck;
-    fn desk_wide_pass(
-        code: WideCode,
-        image: *mut u8,
-        image_length: usize,
-        start: usize,
-        end: usize,
-        journal: *mut u8,
-        journal_length: usize,
-        used: usize,
-        stamp: u32,
-    ) -> PassAnswer;
-    fn desk_wide_quick_pass(
-        code: WideCode,
-        image: *mut u8,
-        image_length: usize,
-        start: usize,
-        end: usize,
-        journal: *mut u8,
-        journal_length: usize,
-        used: usize,
-        stamp: u32,
-    ) -> PassAnswer;
     fn desk_wide_put_back(
         image: *mut u8,
         image_length: usize,
@@ -496,28 +452,6 @@ extern "C" {
         list_length: usize,
     ) -> Listing;
     fn desk_rows_cards(code: RowCode, b: usize) -> CardCheck;
-    fn desk_rows_pass(
-        code: RowCode,
-        image: *mut u8,
-        image_length: usize,
-        start: usize,
-        end: usize,
-        journal: *mut u8,
-        journal_length: usize,
-        used: usize,
-        stamp: u32,
-    ) -> PassAnswer;
-    fn desk_rows_quick_pass(
-        code: RowCode,
-        image: *mut u8,
-        image_length: usize,
-        start: usize,
-        end: usize,
-        journal: *mut u8,
-        journal_length: usize,
-        used: usize,
-        stamp: u32,
-    ) -> PassAnswer;
     fn desk_rows_recover(code: RowCode, data: u64, check: u16, bad: *const usize, count: usize) -> Recovered;
     fn desk_rows_find_bad(
         code: RowCode,
@@ -549,28 +483,6 @@ extern "C" {
         list_length: usize,
     ) -> Listing;
     fn desk_wide_rows_cards(code: WideRowCode, b: usize) -> CardCheck;
-    fn desk_wide_rows_pass(
-        code: WideRowCode,
-        image: *mut u8,
-        image_length: usize,
-        start: usize,
-        end: usize,
-        journal: *mut u8,
-        journal_length: usize,
-        used: usize,
-        stamp: u32,
-    ) -> PassAnswer;
-    fn desk_wide_rows_quick_pass(
-        code: WideRowCode,
-        image: *mut u8,
-        image_length: usize,
-        start: usize,
-        end: usize,
-        journal: *mut u8,
-        journal_length: usize,
-        used: usize,
-        stamp: u32,
-    ) -> PassAnswer;
 }
 
 /// Asks the archive, once it is known to be of this crate's version.
@@ -582,13 +494,14 @@ extern "C" {
 macro_rules! ask {
     ($function:ident($($argument:expr),*)) => {{
         version::compared();
+        // SAFETY: see above; the archive keeps no pointer after a call (c/check: it has no variables) and does not unwind.
         unsafe { $function($($argument),*) }
     }};
 }
 
 /// The version of the archive, to be compared with [`VERSION`](crate::VERSION); every other function here does so.
 pub fn version() -> usize {
-    // Safe, since this function is the same in every version.
+    // SAFETY: this function is the same in every version.
     unsafe { desk_version() }
 }
 
@@ -628,35 +541,58 @@ pub fn cards(code: &Code, b: usize) -> CardCheck {
     ask!(desk_cards(*code, b))
 }
 
-/// Mends the records from `start` up to but not `end` and notes each that is not clean, with the stamp, behind the `used`
-/// entries that the journal has in use; refuses with 12, 14, 17, 16, 13.
-pub fn pass(
-    code: &Code,
-    image: &mut [u8],
-    start: usize,
-    end: usize,
-    journal: &mut [u8],
-    used: usize,
-    stamp: u32,
-) -> PassAnswer {
-    let (image, image_length) = (image.as_mut_ptr(), image.len());
-    let (journal, journal_length) = (journal.as_mut_ptr(), journal.len());
-    ask!(desk_pass(*code, image, image_length, start, end, journal, journal_length, used, stamp))
+/// The passes, which differ by their code alone: what the archive has, and the function here.
+macro_rules! passes {
+    ($($(#[$doc:meta])* $name:ident($code:ty) = $function:ident;)+) => {
+        extern "C" {
+            $(fn $function(
+                code: $code,
+                image: *mut u8,
+                image_length: usize,
+                start: usize,
+                end: usize,
+                journal: *mut u8,
+                journal_length: usize,
+                used: usize,
+                stamp: u32,
+            ) -> PassAnswer;)+
+        }
+
+        $($(#[$doc])*
+        pub fn $name(
+            code: &$code,
+            image: &mut [u8],
+            start: usize,
+            end: usize,
+            journal: &mut [u8],
+            used: usize,
+            stamp: u32,
+        ) -> PassAnswer {
+            let (image, image_length) = (image.as_mut_ptr(), image.len());
+            let (journal, journal_length) = (journal.as_mut_ptr(), journal.len());
+            ask!($function(*code, image, image_length, start, end, journal, journal_length, used, stamp))
+        })+
+    };
 }
 
-/// [`pass`] by the quick engine: the same answer, image and journal, whatever is asked.
-pub fn quick_pass(
-    code: &Code,
-    image: &mut [u8],
-    start: usize,
-    end: usize,
-    journal: &mut [u8],
-    used: usize,
-    stamp: u32,
-) -> PassAnswer {
-    let (image, image_length) = (image.as_mut_ptr(), image.len());
-    let (journal, journal_length) = (journal.as_mut_ptr(), journal.len());
-    ask!(desk_quick_pass(*code, image, image_length, start, end, journal, journal_length, used, stamp))
+passes! {
+    /// Mends the records from `start` up to but not `end` and notes each that is not clean, with the stamp, behind the `used`
+    /// entries that the journal has in use; refuses with 12, 14, 17, 16, 13.
+    pass(Code) = desk_pass;
+    /// [`pass`] by the quick engine: the same answer, image and journal, whatever is asked.
+    quick_pass(Code) = desk_quick_pass;
+    /// [`pass`] of the wide edition: records of 18 bytes, entries of 46.
+    wide_pass(WideCode) = desk_wide_pass;
+    /// [`wide_pass`] by the quick engine.
+    wide_quick_pass(WideCode) = desk_wide_quick_pass;
+    /// [`pass`] under a code with a set of rows.
+    rows_pass(RowCode) = desk_rows_pass;
+    /// [`rows_pass`] by the quick engine.
+    rows_quick_pass(RowCode) = desk_rows_quick_pass;
+    /// [`wide_pass`] under a code with a set of rows.
+    wide_rows_pass(WideRowCode) = desk_wide_rows_pass;
+    /// [`wide_rows_pass`] by the quick engine.
+    wide_rows_quick_pass(WideRowCode) = desk_wide_rows_quick_pass;
 }
 
 /// From the last of the `used` entries of the journal to the first, gives a record that holds an entry's bytes as left its
@@ -746,36 +682,6 @@ pub fn wide_cards(code: &WideCode, b: usize) -> CardCheck {
     ask!(desk_wide_cards(*code, b))
 }
 
-/// [`pass`] of the wide edition: records of 18 bytes, entries of 46.
-pub fn wide_pass(
-    code: &WideCode,
-    image: &mut [u8],
-    start: usize,
-    end: usize,
-    journal: &mut [u8],
-    used: usize,
-    stamp: u32,
-) -> PassAnswer {
-    let (image, image_length) = (image.as_mut_ptr(), image.len());
-    let (journal, journal_length) = (journal.as_mut_ptr(), journal.len());
-    ask!(desk_wide_pass(*code, image, image_length, start, end, journal, journal_length, used, stamp))
-}
-
-/// [`wide_pass`] by the quick engine.
-pub fn wide_quick_pass(
-    code: &WideCode,
-    image: &mut [u8],
-    start: usize,
-    end: usize,
-    journal: &mut [u8],
-    used: usize,
-    stamp: u32,
-) -> PassAnswer {
-    let (image, image_length) = (image.as_mut_ptr(), image.len());
-    let (journal, journal_length) = (journal.as_mut_ptr(), journal.len());
-    ask!(desk_wide_quick_pass(*code, image, image_length, start, end, journal, journal_length, used, stamp))
-}
-
 /// [`put_back`] of the wide edition.
 pub fn wide_put_back(image: &mut [u8], journal: &[u8], used: usize) -> PutBack {
     ask!(desk_wide_put_back(image.as_mut_ptr(), image.len(), journal.as_ptr(), journal.len(), used))
@@ -821,36 +727,6 @@ pub fn rows_cards(code: &RowCode, b: usize) -> CardCheck {
     ask!(desk_rows_cards(*code, b))
 }
 
-/// [`pass`] under a code with a set of rows.
-pub fn rows_pass(
-    code: &RowCode,
-    image: &mut [u8],
-    start: usize,
-    end: usize,
-    journal: &mut [u8],
-    used: usize,
-    stamp: u32,
-) -> PassAnswer {
-    let (image, image_length) = (image.as_mut_ptr(), image.len());
-    let (journal, journal_length) = (journal.as_mut_ptr(), journal.len());
-    ask!(desk_rows_pass(*code, image, image_length, start, end, journal, journal_length, used, stamp))
-}
-
-/// [`rows_pass`] by the quick engine.
-pub fn rows_quick_pass(
-    code: &RowCode,
-    image: &mut [u8],
-    start: usize,
-    end: usize,
-    journal: &mut [u8],
-    used: usize,
-    stamp: u32,
-) -> PassAnswer {
-    let (image, image_length) = (image.as_mut_ptr(), image.len());
-    let (journal, journal_length) = (journal.as_mut_ptr(), journal.len());
-    ask!(desk_rows_quick_pass(*code, image, image_length, start, end, journal, journal_length, used, stamp))
-}
-
 /// [`wide_judge`] of a code with a set of rows; refuses with 1, 2, 3, 20 and 21.
 pub fn wide_rows_judge(code: &WideRowCode) -> Judgement {
     ask!(desk_wide_rows_judge(*code))
@@ -879,36 +755,6 @@ pub fn wide_rows_explain(code: &WideRowCode, word: WideWord, limit: usize, list:
 /// [`wide_cards`] of a code with a set of rows.
 pub fn wide_rows_cards(code: &WideRowCode, b: usize) -> CardCheck {
     ask!(desk_wide_rows_cards(*code, b))
-}
-
-/// [`wide_pass`] under a code with a set of rows.
-pub fn wide_rows_pass(
-    code: &WideRowCode,
-    image: &mut [u8],
-    start: usize,
-    end: usize,
-    journal: &mut [u8],
-    used: usize,
-    stamp: u32,
-) -> PassAnswer {
-    let (image, image_length) = (image.as_mut_ptr(), image.len());
-    let (journal, journal_length) = (journal.as_mut_ptr(), journal.len());
-    ask!(desk_wide_rows_pass(*code, image, image_length, start, end, journal, journal_length, used, stamp))
-}
-
-/// [`wide_rows_pass`] by the quick engine.
-pub fn wide_rows_quick_pass(
-    code: &WideRowCode,
-    image: &mut [u8],
-    start: usize,
-    end: usize,
-    journal: &mut [u8],
-    used: usize,
-    stamp: u32,
-) -> PassAnswer {
-    let (image, image_length) = (image.as_mut_ptr(), image.len());
-    let (journal, journal_length) = (journal.as_mut_ptr(), journal.len());
-    ask!(desk_wide_rows_quick_pass(*code, image, image_length, start, end, journal, journal_length, used, stamp))
 }
 
 /// [`recover`] under a code with a set of rows.

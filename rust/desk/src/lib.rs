@@ -2,7 +2,8 @@
 //!
 //! A safe wrapper of `libdesk.a`, whose functions are written in Rattle and proved: every answer, every refusal and
 //! every byte of a lent buffer is stated by a definition. Each question is a function here or a method of [`Code`],
-//! [`WideCode`] or [`Station`], and answers a [`Result`] whose error is a [`Refusal`], with its number and what it tells.
+//! [`WideCode`], [`RowCode`], [`WideRowCode`] or [`Station`], and answers a [`Result`] whose error is a [`Refusal`], with its
+//! number and what it tells.
 //!
 //! ```
 //! use desk::{Code, Explanation, Refusal, Verdict, Word};

@@ -100,7 +100,7 @@ refusals! {
         "the image's length is no multiple of a record's, or over that of the longest image";
     13 JournalRoom { needed = told "entries needed" },
         "journal room left (its length / 30, wide edition: / 46, down, less the entries in use) below the entries needed",
-        "the journal needs room for {needed} more entries";
+        "the pass needs room for {needed} entries behind those in use";
     14 Run,
         "run's start above its end, or its end above the number of records", "the run does not lie in the image";
     15 ColumnRoom,

@@ -1,6 +1,6 @@
 //! The questions of codes with a set of rows, in both editions.
 
-use crate::code::{done, entries, reading};
+use crate::code::{done, entries, places, reading};
 use crate::refusal::Plain;
 use crate::{ffi, Explanation, Passed, Reading, Refusal, RowCode, WideRowCode, WideWord, Word};
 use crate::{LONGEST_LIST, WIDE_LONGEST_LIST};
@@ -61,7 +61,7 @@ impl RowCode {
         done(answer.number, answer.told, answer.rows)
     }
 
-    /// The check bits that go with the data: those for which every row counts an even number of ones, and no others do.
+    /// The check bits that go with the data: the only ones with which every row counts an even number of ones.
     ///
     /// ```
     /// use desk::{Code, RowCode};
@@ -237,6 +237,17 @@ impl RowCode {
         let answer = ffi::rows_find_bad(self, (first.data, first.check), (second.data, second.check));
         done(answer.number, answer.told, Word { data: answer.data, check: answer.check })
     }
+
+    /// The places at which a word has ones, rising: data bit i is place i, check bit j is place n - r + j.
+    ///
+    /// ```
+    /// let code = desk::RowCode::new(&[28, 14, 22, 26, 29, 3, 5, 9, 17, 2, 4, 8, 16], 5, 30)?;
+    /// assert_eq!(code.places(desk::Word { data: 0x81, check: 3 }), [0, 7, 8, 9]);
+    /// # Ok::<(), desk::Refusal>(())
+    /// ```
+    pub fn places(&self, word: Word) -> Vec<usize> {
+        places(word.data.into(), word.check, self.n.saturating_sub(self.r))
+    }
 }
 
 /// Every question answers as that of [`RowCode`] does, over 144 places and words of two halves.
@@ -294,7 +305,7 @@ impl WideRowCode {
         done(answer.number, answer.told, answer.rows)
     }
 
-    /// The check bits that go with the data: those for which every row counts an even number of ones, and no others do.
+    /// The check bits that go with the data: the only ones with which every row counts an even number of ones.
     ///
     /// ```
     /// use desk::{WideCode, WideRowCode};
@@ -469,5 +480,16 @@ impl WideRowCode {
     pub fn find_bad(&self, first: WideWord, second: WideWord) -> Result<WideWord, Refusal> {
         let answer = ffi::wide_rows_find_bad(self, first, second);
         done(answer.number, answer.told, answer.word)
+    }
+
+    /// The places at which a word has ones, rising: data bit i is place i, check bit j is place n - r + j.
+    ///
+    /// ```
+    /// let code = desk::WideRowCode::new(&[28, 14, 22, 26, 29, 3, 5, 9, 17, 2, 4, 8, 16], 5, 30)?;
+    /// assert_eq!(code.places(desk::WideWord { low: 0x81, high: 0, check: 3 }), [0, 7, 8, 9]);
+    /// # Ok::<(), desk::Refusal>(())
+    /// ```
+    pub fn places(&self, word: WideWord) -> Vec<usize> {
+        places(word.into(), word.check, self.n.saturating_sub(self.r))
     }
 }

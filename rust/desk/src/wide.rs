@@ -1,6 +1,6 @@
 //! The questions of the wide edition: words of up to 128 data bits.
 
-use crate::code::{done, entries, reading};
+use crate::code::{done, entries, places, reading};
 use crate::refusal::Plain;
 use crate::{ffi, Explanation, Passed, Reading, Refusal, WideCode, WideWord, WIDE_LONGEST_LIST};
 use std::ops::Range;
@@ -303,9 +303,6 @@ impl WideCode {
     /// # Ok::<(), desk::Refusal>(())
     /// ```
     pub fn places(&self, word: WideWord) -> Vec<usize> {
-        let bits = u128::from(word);
-        let data = (0..128).filter(|&i| bits >> i & 1 == 1);
-        let check = (0..16).filter(|&j| word.check >> j & 1 == 1);
-        data.chain(check.map(|j| self.k.saturating_add(j))).collect()
+        places(word.into(), word.check, self.k)
     }
 }

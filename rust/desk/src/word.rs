@@ -65,8 +65,9 @@ pub struct Reading<W = Word> {
     pub verdict: Verdict,
     /// The flipped place, with [`Verdict::Data`] and [`Verdict::Check`]; the desk's 255 is `None`.
     pub place: Option<usize>,
-    /// The syndrome of the word as read: the check bits that writing its data gives, exclusive-ored with its own. It is 0
-    /// exactly for a clean word, and the column of the place where there is one.
+    /// The syndrome of the word as read: the exclusive or of the columns of all bits that are set; in Hsiao's family that is
+    /// what writing the data gives, exclusive-ored with the check bits. It is 0 exactly for a clean word, and the column of
+    /// the place where there is one.
     pub syndrome: u16,
     /// The word mended, or as read where it is not mended.
     pub word: W,

@@ -4,6 +4,7 @@ mod common;
 
 use common::*;
 use desk::{check_bits_wanted, put_back, Code, Limit, Refusal, RowCode, Station, Word, ENTRY};
+use desk::{WideCode, WideRowCode, WideWord};
 
 /// The sample with this column at place 3.
 fn with_column(column: u16) -> Code {
@@ -98,26 +99,53 @@ fn every_refusal_has_its_number_and_tells_what_the_table_says() {
     }
 }
 
+/// Every question that takes a code refuses this one so, whatever else is wrong.
+macro_rules! is_judged_by_every_question {
+    ($code:expr, $word:ty, $refusal:expr) => {{
+        let (code, refusal, word) = ($code, $refusal, <$word>::default());
+        assert_eq!(code.judge(), Err(refusal));
+        assert_eq!(code.row_balance(), Err(refusal));
+        assert_eq!(code.write(0), Err(refusal));
+        assert_eq!(code.read(word), Err(refusal));
+        assert_eq!(code.explain(word, 3), Err(refusal));
+        assert_eq!(code.explain_into(word, 3, &mut []), Err(refusal));
+        assert_eq!(code.card_check(9), Err(refusal));
+        assert_eq!(code.recover(word, &[99; 4]), Err(refusal));
+        assert_eq!(code.find_bad(word, word), Err(refusal));
+        assert_eq!(code.pass(&mut [0], 0..9, &mut [], 1, 0), Err(refusal));
+        assert_eq!(code.quick_pass(&mut [0], 0..9, &mut [], 1, 0), Err(refusal));
+    }};
+}
+
 #[test]
 fn a_code_is_judged_by_every_question() {
-    let code = with_column(12);
+    let even = with_column(12);
     let refusal = Refusal::EvenColumn { place: 3 };
-    let word = Word::default();
-    assert_eq!(code.judge(), Err(refusal));
-    assert_eq!(code.row_balance(), Err(refusal));
-    assert_eq!(code.write(0), Err(refusal));
-    assert_eq!(code.read(word), Err(refusal));
-    assert_eq!(code.explain(word, 3), Err(refusal));
-    assert_eq!(code.explain_into(word, 3, &mut []), Err(refusal));
-    assert_eq!(code.card_check(9), Err(refusal));
-    assert_eq!(code.recover(word, &[99; 4]), Err(refusal));
-    assert_eq!(code.find_bad(word, word), Err(refusal));
-    assert_eq!(code.pass(&mut [0], 0..9, &mut [], 1, 0), Err(refusal));
-    assert_eq!(Code::new(&code.columns[..8], 5), Err(refusal));
+    is_judged_by_every_question!(even, Word, refusal);
+    assert_eq!(Code::new(&even.columns[..8], 5), Err(refusal));
+
+    let mut wide = WideCode::made(8, 5).unwrap();
+    wide.columns[3] = 12;
+    is_judged_by_every_question!(wide, WideWord, refusal);
+    assert_eq!(WideCode::new(&wide.columns[..8], 5), Err(refusal));
+
+    // Place 3 is that of a data column with no one in row 0, which alone is the set.
+    let refusal = Refusal::RowSet { reason: 4 };
+    let mut rows = RowCode::new(&[7, 11, 13, 15, 1, 3, 5, 9], 4, 1).unwrap();
+    rows.columns[3] = 12;
+    is_judged_by_every_question!(rows, Word, refusal);
+    assert_eq!(RowCode::new(&rows.columns[..8], 4, 1), Err(refusal));
+
+    let mut rows = WideRowCode::new(&[7, 11, 13, 15, 1, 3, 5, 9], 4, 1).unwrap();
+    rows.columns[3] = 12;
+    is_judged_by_every_question!(rows, WideWord, refusal);
+    assert_eq!(WideRowCode::new(&rows.columns[..8], 4, 1), Err(refusal));
 }
 
 #[test]
 fn a_refusal_is_an_error() {
     let error: Box<dyn std::error::Error> = Box::new(Refusal::WeakCard { card: 1, mask: 7 });
     assert_eq!(error.to_string(), "refused 9: card 1 is weak at mask 7");
+    let says = Refusal::JournalRoom { needed: 2 }.to_string();
+    assert_eq!(says, "refused 13: the pass needs room for 2 entries behind those in use");
 }

@@ -1,7 +1,7 @@
 //! The answers: a number (0 done, else the table's number of the refusal), what is told, and the rest.
 //!
-//! `told` is the bad column's place for 3 to 6, the list's length for 10, the entries needed for 13; 9 and 18 tell in fields
-//! of their own. Everything that is not told is 0.
+//! `told` is the bad column's place for 3 to 6, the list's length for 10, the entries needed for 13, the reason for 20, the
+//! first place that is not 0 for 21; 9 and 18 tell in fields of their own. Everything that is not told is 0.
 
 /// Why a question is refused.
 #[derive(Clone, Copy, PartialEq, Eq, Debug)]
@@ -95,13 +95,15 @@ pub struct PutBack {
 /// What an answer with a number and a told value is when the question is refused: the rest is 0.
 macro_rules! refused {
     ($($answer:ident)*) => {$(
-        impl From<Refusal> for $answer {
-            fn from(refusal: Refusal) -> $answer {
+        impl From<$crate::answers::Refusal> for $answer {
+            fn from(refusal: $crate::answers::Refusal) -> $answer {
                 $answer { number: refusal.number, told: refusal.told, ..$answer::default() }
             }
         }
     )*};
 }
+
+pub(crate) use refused;
 
 impl From<Refusal> for Judged {
     fn from(refusal: Refusal) -> Judged {

@@ -5,7 +5,7 @@
 //! words that are written, then each of the 70 words that differ from it within one byte. No syndrome is formed, and no
 //! matrix is multiplied.
 
-use crate::answers::Refusal;
+use crate::answers::{refused, Refusal};
 
 /// Bytes of data, and of a word.
 const DATA: usize = 7;
@@ -66,17 +66,7 @@ pub struct ByteRead {
     pub word: u64,
 }
 
-impl From<Refusal> for ByteWritten {
-    fn from(refusal: Refusal) -> ByteWritten {
-        ByteWritten { number: refusal.number, told: refusal.told, ..ByteWritten::default() }
-    }
-}
-
-impl From<Refusal> for ByteRead {
-    fn from(refusal: Refusal) -> ByteRead {
-        ByteRead { number: refusal.number, told: refusal.told, ..ByteRead::default() }
-    }
-}
+refused!(ByteWritten ByteRead);
 
 /// A word with the bits of a pattern flipped in byte t.
 pub fn spoilt(word: u64, t: usize, pattern: u64) -> u64 {

@@ -324,7 +324,9 @@ pub fn compare_rows<C: Chosen>(
     let words = || cases(amounts, 22, amounts.words / 20, CasesOf::<C>::word);
     let lists = cases(amounts, 23, amounts.lists / 5, CasesOf::<C>::list);
     let cards = cases(amounts, 24, amounts.cards / 5, CasesOf::<C>::card);
-    let images = cases(amounts, 25, amounts.images / 5, CasesOf::<C>::image);
+    // Four short streams rather than a long one, whose later codes have many check bits: writing tries them all for each word.
+    let images = |stream| cases(amounts, stream, amounts.images / 5, CasesOf::<C>::image);
+    let images = [25, 30, 31, 32].into_iter().flat_map(images);
     let turns = cases(amounts, 26, amounts.turns / 5, CasesOf::<C>::turns);
     let bad = cases(amounts, 28, amounts.bad / 5, CasesOf::<C>::bad);
     let finds = cases(amounts, 29, amounts.finds / 5, CasesOf::<C>::find);

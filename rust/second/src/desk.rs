@@ -8,8 +8,8 @@ use crate::make::Made;
 use crate::pass::Pass;
 use crate::sheet::{Sheeted, Station};
 
-/// Every question of document 01, and 02's put-back, sheet, maker and words of ten bytes. No method has a body here: a desk
-/// must not fall back on another's answer.
+/// Every question of document 01, and 02's put-back, sheet, maker, words of ten bytes, bad places and finder. No method has a
+/// body here: a desk must not fall back on another's answer.
 pub trait Desk {
     fn name(&self) -> &'static str;
     fn wanted(&self, k: usize) -> Wanted;

@@ -1,5 +1,5 @@
-//! The independent second program: answers every question of document 01, and 02's put-back, sheet, maker and words of ten
-//! bytes, from the documents alone.
+//! The independent second program: answers every question of document 01, and 02's put-back, sheet, maker, words of ten
+//! bytes, bad places and their finder, from the documents alone.
 //!
 //! It goes by brute force over words of switches. A word is clean when writing its data gives its check bits; reading,
 //! explanations and cards flip places and ask that again. The syndrome is handed out, and its ones are counted where no
@@ -11,10 +11,11 @@
 //! Of passes in any order it says what they must leave, without running one.
 //!
 //! The questions are [`wanted`], [`judge`], [`row_balance`], [`write`], [`read`], [`explain`], [`card_check`], [`pass`],
-//! [`put_back`], [`sheet`], [`make`], [`byte_write`], [`byte_read`] and the program [`mend`]. Those about a code, and the
-//! put-back, are answered in any edition ([`Coded`]); a word's data is u64 in the ten-byte one and u128 in the wide one. [`Desk`] gathers them,
-//! [`Questions`] those of one edition, [`Cases`] makes cases from a seed, [`compare`] and [`compare_wide`] ask several
-//! desks, and [`worked`] and [`worked_wide`] ask a desk the documents' own cases.
+//! [`put_back`], [`sheet`], [`make`], [`byte_write`], [`byte_read`], [`recover`], [`find_bad`] and the program [`mend`]. Those
+//! about a code, and the put-back, are answered in any edition ([`Coded`]); a word's data is u64 in the ten-byte one and u128
+//! in the wide one. [`Desk`] gathers them, [`Questions`] those of one edition, [`OfCodes`] those that take a code of one family
+//! and edition. [`Cases`] makes cases from a seed; [`compare`], [`compare_narrow`], [`compare_wide`] and [`compare_rows`] ask
+//! several desks; [`worked`], [`worked_wide`] and [`worked_rows`] ask a desk the documents' own cases.
 
 mod answers;
 mod back;

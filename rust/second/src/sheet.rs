@@ -4,7 +4,7 @@
 //! times the count is nearest to what is divided, of two as near the even one. Nothing here adds, divides or compares
 //! floats.
 
-use crate::answers::Refusal;
+use crate::answers::{refused, Refusal};
 use std::cmp::Ordering;
 
 /// What 19 bounds the counts of devices and of words by.
@@ -45,11 +45,7 @@ pub struct Sheeted {
     pub share: u64,
 }
 
-impl From<Refusal> for Sheeted {
-    fn from(refusal: Refusal) -> Sheeted {
-        Sheeted { number: refusal.number, told: refusal.told, ..Sheeted::default() }
-    }
-}
+refused!(Sheeted);
 
 /// A number `digits` · 2^`exponent`.
 #[derive(Clone, Copy, Debug)]

@@ -164,12 +164,35 @@ impl<C: Hsiao> Worked<C> {
         }
     }
 
+    /// What the desk answers to a question about image and journal, or what they hold after one.
+    fn ask_image(&mut self, desk: &dyn Questions<C>, question: &str) -> Option<String> {
+        Some(match question.split_whitespace().collect::<Vec<&str>>()[..] {
+            ["pass", start, end, length, used, stamp] => {
+                let asked = Pass { start: number(start), end: number(end), used: number(used), stamp: number(stamp) };
+                let journal = &mut self.journal[..number::<usize>(length)];
+                let a = desk.pass(&self.code, &mut self.image, journal, &asked);
+                said(&[a.number, a.told, a.used]) + &said(&a.tally)
+            }
+            ["back", length, used] => {
+                let journal = &mut self.journal[..number::<usize>(length)];
+                let a = desk.put_back(&mut self.image, journal, number(used));
+                said(&[a.number, a.told, a.count])
+            }
+            ["left"] => hex(&self.image, 2),
+            ["noted"] => hex(changed(&self.journal), 2),
+            _ => return None,
+        })
+    }
+
     /// What the desk answers to a question, with a space before each number.
     fn ask(&mut self, desk: &dyn Questions<C>, question: &str) -> String {
-        let code = &self.code;
-        if let Some(answer) = ask_code(desk, code, question) {
+        if let Some(answer) = ask_code(desk, &self.code, question) {
             return answer;
         }
+        if let Some(answer) = self.ask_image(desk, question) {
+            return answer;
+        }
+        let code = &self.code;
         match question.split_whitespace().collect::<Vec<&str>>()[..] {
             ["wanted", from, to] => {
                 let mut answers: Vec<_> = (number(from)..=number(to)).map(|k| desk.wanted(k)).collect();
@@ -187,17 +210,6 @@ impl<C: Hsiao> Worked<C> {
                 let data: usize = columns.iter().map(|&column| ones(&switches(column.into(), 16))).sum();
                 said(&[data + code.r()])
             }
-            ["pass", start, end, length, used, stamp] => {
-                let asked = Pass { start: number(start), end: number(end), used: number(used), stamp: number(stamp) };
-                let journal = &mut self.journal[..number::<usize>(length)];
-                let a = desk.pass(code, &mut self.image, journal, &asked);
-                said(&[a.number, a.told, a.used]) + &said(&a.tally)
-            }
-            ["back", length, used] => {
-                let journal = &mut self.journal[..number::<usize>(length)];
-                let a = desk.put_back(&mut self.image, journal, number(used));
-                said(&[a.number, a.told, a.count])
-            }
             ["recover", d, c, ref places @ ..] => {
                 let bad: Vec<usize> = places.iter().map(|place| number(place)).collect();
                 let a = desk.recover(code, C::Data::of(data(d)), number(c), &bad);
@@ -208,8 +220,6 @@ impl<C: Hsiao> Worked<C> {
                     desk.find_bad(code, (C::Data::of(data(d)), number(c)), (C::Data::of(data(other)), number(others)));
                 said(&[a.number, a.told]) + &hex(&[a.data.into()], 1) + &said(&[a.check])
             }
-            ["left"] => hex(&self.image, 2),
-            ["noted"] => hex(changed(&self.journal), 2),
             _ => panic!("{:?} is no question", question),
         }
     }

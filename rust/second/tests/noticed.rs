@@ -210,6 +210,24 @@ fn entered(entries: &[u8]) -> impl Iterator<Item = usize> + '_ {
     entries.chunks_exact(30).map(|entry| usize::from(entry[4]))
 }
 
+/// Leaves out those of the new entries whose record has been entered before: the count in use.
+fn enter_once(journal: &mut [u8], before: &[u8], new: Range<usize>) -> usize {
+    let (old, entries) = journal[..30 * new.end].split_at(30 * new.start);
+    let is_new = |entry: &&[u8]| !entered(old).any(|record| record == usize::from(entry[4]));
+    let kept: Vec<u8> = entries.chunks(30).filter(is_new).flatten().copied().collect();
+    journal.copy_from_slice(before);
+    journal[30 * new.start..][..kept.len()].copy_from_slice(&kept);
+    new.start + kept.len() / 30
+}
+
+/// Gives the records whose check bit was mended what they held before.
+fn unmend_check_bits(image: &mut [u8], before: &[u8], entries: &[u8]) {
+    let check_bits = entries.chunks(30).filter(|entry| entry[6] == 2).map(|entry| usize::from(entry[4]));
+    for at in check_bits.map(|record| 10 * record) {
+        image[at..at + 10].copy_from_slice(&before[at..at + 10]);
+    }
+}
+
 /// A pass that is refused by this number: image and journal are as they were.
 fn refused_pass(number: usize, image: &mut [u8], journal: &mut [u8], before: (Vec<u8>, Vec<u8>)) -> Passed {
     image.copy_from_slice(&before.0);
@@ -218,6 +236,16 @@ fn refused_pass(number: usize, image: &mut [u8], journal: &mut [u8], before: (Ve
 }
 
 impl Sloppy {
+    /// Whether this desk refuses a stamp that the document lets pass.
+    fn refuses_stamp(&self, stamp: u32, used: usize, is_used: bool, first: u32, last: u32) -> bool {
+        match self.0 {
+            FirstStampIsCompared => is_used && stamp < first,
+            EqualStampIsRefused => is_used && stamp == last,
+            StampIsTriedWithNoneUsed => used == 0 && stamp < first,
+            _ => false,
+        }
+    }
+
     /// A pass as this desk takes stamps and the count in use.
     fn pass_by_the_count(&self, code: &Code, image: &mut [u8], journal: &mut [u8], asked: &Pass) -> Passed {
         let Pass { used, stamp, .. } = *asked;
@@ -226,6 +254,9 @@ impl Sloppy {
         let stamp_at = |entry: usize| before.1.get(30 * entry..30 * entry + 4).map_or(0, stamp_of);
         let (first, last) = (stamp_at(0), if is_used { stamp_at(used - 1) } else { 0 });
         let mut answer = pass(code, image, journal, asked);
+        if matches!(answer.number, 0 | 13) && self.refuses_stamp(stamp, used, is_used, first, last) {
+            return refused_pass(16, image, journal, before);
+        }
         let new = 30 * used.min(room)..30 * answer.used.max(used.min(room));
         match (self.0, answer.number) {
             (StampHighByteFirst, 0) => journal[new].chunks_mut(30).for_each(|entry| entry[..4].reverse()),
@@ -234,16 +265,7 @@ impl Sloppy {
             (LastUsedEntryIsStamped, 0) if is_used => {
                 journal[30 * (used - 1)..][..4].copy_from_slice(&stamp.to_le_bytes())
             }
-            (FirstStampIsCompared, 0 | 13) if is_used && stamp < first => {
-                return refused_pass(16, image, journal, before)
-            }
             (FirstStampIsCompared, 16) if stamp >= first => answer.number = 0,
-            (EqualStampIsRefused, 0 | 13) if is_used && stamp == last => {
-                return refused_pass(16, image, journal, before)
-            }
-            (StampIsTriedWithNoneUsed, 0 | 13) if used == 0 && stamp < first => {
-                return refused_pass(16, image, journal, before)
-            }
             (RoomFromTheStart, 13) if answer.told <= room => answer = Passed::default(),
             (OneUsedTooMany, 17) if used == room + 1 => answer.number = 0,
             (FullJournalIsRefused, 0 | 13 | 16) if used == room => return refused_pass(17, image, journal, before),
@@ -253,13 +275,10 @@ impl Sloppy {
             (NarrowCountInUse, 17) => {
                 return pass(code, image, journal, &Pass { used: used as u32 as usize, ..*asked })
             }
-            (RoomBeforeStamp, 16) => {
-                let without = pass(code, image, journal, &Pass { stamp: u32::MAX, ..*asked });
-                if without.number == 13 {
-                    return without;
-                }
-                return refused_pass(16, image, journal, before);
-            }
+            (RoomBeforeStamp, 16) => match pass(code, image, journal, &Pass { stamp: u32::MAX, ..*asked }) {
+                without if without.number == 13 => return without,
+                _ => return refused_pass(16, image, journal, before),
+            },
             (StampBeforeRun, 14) if is_used && stamp < last => answer.number = 16,
             (NewEntriesAreHandedBack, 0) => answer.used -= used,
             (RefusedPassHasCount, 13 | 16) => answer.used = used,
@@ -477,21 +496,8 @@ impl Desk for Sloppy {
                 pass(code, image, &mut [0; 30], &Pass { start: end, end: end + 1, ..Pass::default() });
             }
             (TallyGoesOn, 0) => answer.tally[0] += used,
-            (EnteredOnce, 0) => {
-                let (old, new) = journal[..30 * answer.used].split_at(30 * used);
-                let is_new = |entry: &&[u8]| !entered(old).any(|record| record == usize::from(entry[4]));
-                let kept: Vec<u8> = new.chunks(30).filter(is_new).flatten().copied().collect();
-                journal.copy_from_slice(&journal_before);
-                journal[30 * used..][..kept.len()].copy_from_slice(&kept);
-                answer.used = used + kept.len() / 30;
-            }
-            (MendedIsEnteredAgain, 0) if answer.tally[2] > 0 => {
-                let new = journal[30 * used..30 * answer.used].chunks(30);
-                let check_bits = new.filter(|entry| entry[6] == 2).map(|entry| usize::from(entry[4]));
-                for at in check_bits.map(|record| 10 * record) {
-                    image[at..at + 10].copy_from_slice(&before[at..at + 10]);
-                }
-            }
+            (EnteredOnce, 0) => answer.used = enter_once(journal, &journal_before, used..answer.used),
+            (MendedIsEnteredAgain, 0) => unmend_check_bits(image, &before, &journal[30 * used..30 * answer.used]),
             (StrayIsNotCounted, 0) => answer.tally[5] = 0,
             (RefusedPassHasTally, 13) => answer.tally[3] = answer.told,
             _ => {}
@@ -889,8 +895,9 @@ fn the_worked_cases_notice_every_easy_way_to_go_wrong_and_every_byte() {
     let bytes = [RefusedListIsWritten, ListTailIsCleared, RefusedPassIsNoted, NothingIsMended];
     let amended = [CardsRunStraightOn, DataCardIsJoined, CheckCardsAreLeftOut, CheckCardsFromZero];
     let made = [FiveBeforeThree, LargerNumberFirst, ColumnLeftOut, LeftoverIsMade, RoomForOneLess, RoomForOneMore];
-    let ways = ways.into_iter().chain(bytes).chain(amended).chain(made).chain(STAMPS).chain(TOLD).chain(ENTERED);
-    for fault in ways.chain(BACK).chain(DAMAGED_BACK).chain(BAD).chain(FOUND) {
+    let leftovers = [LeftoversAreJudged, LeftoversAreIgnored, OnlyTheNextPlaceIsSeen, LastPlaceIsNotSeen];
+    let ways = ways.into_iter().chain(bytes).chain(amended).chain(made).chain(leftovers);
+    for fault in ways.chain(STAMPS).chain(TOLD).chain(ENTERED).chain(BACK).chain(DAMAGED_BACK).chain(BAD).chain(FOUND) {
         assert!(!worked(&Sloppy(fault)).is_empty(), "{:?}", fault);
     }
 }

@@ -1,6 +1,6 @@
 //! The streams of cases: fixed by their seed, and wide enough that every line of the document is asked.
 
-use second::cases::{edges, edges_of_bits, BackCase, BadCase, CardCase, HUGE};
+use second::cases::{edges, edges_of_bits, BackCase, BadCase, CardCase, ImageCase, HUGE};
 use second::*;
 use std::collections::{BTreeMap, BTreeSet, HashSet};
 
@@ -220,53 +220,73 @@ fn cards_are_proof_and_weak_for_every_b() {
     assert!([0, 1, 9, 10].iter().chain(&HUGE).all(|&b| seen.contains(&(b, 8))));
 }
 
+/// Shapes of cases, and whether or how far they were met.
+type Shapes = HashSet<(&'static str, usize)>;
+
+/// What a done pass leaves, and the shapes of its case.
+fn done_pass(case: &ImageCase<Code>, answer: &Passed, image: &[u8], journal: &[u8], seen: &mut Shapes) {
+    let Pass { start, end, used, stamp } = case.asked;
+    let (records, room) = (case.image.len() / 10, case.journal.len() / 30);
+    let noted: usize = answer.tally[1..].iter().sum();
+    assert_eq!(answer.used, used + noted);
+    assert!(journal[..30 * used] == case.journal[..30 * used]);
+    assert!(journal[30 * answer.used..] == case.journal[30 * answer.used..]);
+    let changed = (0..image.len()).filter(|&at| image[at] != case.image[at]);
+    assert!(changed.into_iter().all(|at| (start..end).contains(&(at / 10))));
+    seen.insert(("inner run", (start > 0 && end < records && noted > 0).into()));
+    seen.insert(("equal ends", (start == end).into()));
+    seen.insert(("over a byte", (end > 256 && noted > 0).into()));
+    seen.insert(("longest", (case.image.len() == 65_530).into()));
+    seen.insert(("room", (case.journal.len() - 30 * answer.used).min(31)));
+    seen.insert(("used", used.min(3)));
+    seen.insert(("equal stamp", (last_stamp(case) == Some(stamp) && noted > 0).into()));
+    seen.insert(("highest stamp", (stamp == u32::MAX && used > 0 && noted > 0).into()));
+    let first = case.journal.get(..30).map(stamp_of);
+    seen.insert(("below the first", (used > 1 && first > Some(stamp)).into()));
+    seen.insert(("below what is not in use", (used == 0 && first > Some(stamp)).into()));
+    seen.insert(("full and all clean", (used == room && used > 0 && noted == 0 && start < end).into()));
+}
+
+/// The shapes of a refused pass's case.
+fn refused_pass(case: &ImageCase<Code>, answer: &Passed, seen: &mut Shapes) {
+    let Pass { start, end, used, stamp } = case.asked;
+    let (number, records, room) = (answer.number, case.image.len() / 10, case.journal.len() / 30);
+    seen.insert(("backwards", (number == 14 && start > end).into()));
+    seen.insert(("beyond by one", (number == 14 && end == records + 1).into()));
+    seen.insert(("far beyond", (number == 14 && end == usize::MAX).into()));
+    seen.insert(("odd length", (number == 12 && case.image.len() % 10 != 0).into()));
+    seen.insert(("too long", (number == 12 && case.image.len() == 65_540).into()));
+    let needed = 30 * (used.min(room) + answer.told);
+    seen.insert(("short by", if number == 13 { needed - case.journal.len() } else { 0 }));
+    seen.insert(("short by what is in use", (number == 13 && answer.told <= room).into()));
+    seen.insert(("one too many in use", (number == 17 && used == room + 1).into()));
+    seen.insert(("far too many in use", (number == 17 && used == usize::MAX).into()));
+    seen.insert(("cut short they would fit", (number == 17 && used as u32 as usize <= room).into()));
+    seen.insert(("lower by one", (number == 16 && last_stamp(case) == stamp.checked_add(1)).into()));
+    seen.insert(("not below the first", (number == 16 && stamp >= stamp_of(&case.journal)).into()));
+    seen.insert(("lower, and nothing to write", (number == 16 && start == end).into()));
+}
+
+/// The stamp of the last entry in use.
+fn last_stamp(case: &ImageCase<Code>) -> Option<u32> {
+    let (used, room) = (case.asked.used, case.journal.len() / 30);
+    Some(used).filter(|used| (1..=room).contains(used)).map(|used| stamp_of(&case.journal[30 * used - 30..]))
+}
+
 #[test]
 fn images_have_every_verdict_run_and_journal() {
     let mut cases = Cases::new(11);
-    let (mut tally, mut seen) = ([0; 6], HashSet::new());
+    let (mut tally, mut seen) = ([0; 6], Shapes::new());
     for _ in 0..2_000 {
         let case = cases.image();
         let (mut image, mut journal) = (case.image.clone(), case.journal.clone());
-        let Pass { start, end, used, stamp } = case.asked;
         let answer = pass(&case.code, &mut image, &mut journal, &case.asked);
-        let (records, room) = (case.image.len() / 10, case.journal.len() / 30);
-        let noted: usize = answer.tally[1..].iter().sum();
-        let last = if (1..=room).contains(&used) { Some(stamp_of(&case.journal[30 * used - 30..])) } else { None };
         if answer.number == 0 {
-            assert_eq!(answer.used, used + noted);
             tally.iter_mut().zip(answer.tally).for_each(|(all, count)| *all += count);
-            assert!(journal[..30 * used] == case.journal[..30 * used]);
-            assert!(journal[30 * answer.used..] == case.journal[30 * answer.used..]);
-            let changed = (0..image.len()).filter(|&at| image[at] != case.image[at]);
-            assert!(changed.into_iter().all(|at| (start..end).contains(&(at / 10))));
-            seen.insert(("inner run", (start > 0 && end < records && noted > 0).into()));
-            seen.insert(("equal ends", (start == end).into()));
-            seen.insert(("over a byte", (end > 256 && noted > 0).into()));
-            seen.insert(("longest", (case.image.len() == 65_530).into()));
-            seen.insert(("room", (case.journal.len() - 30 * answer.used).min(31)));
-            seen.insert(("used", used.min(3)));
-            seen.insert(("equal stamp", (last == Some(stamp) && noted > 0).into()));
-            seen.insert(("highest stamp", (stamp == u32::MAX && used > 0 && noted > 0).into()));
-            let first = case.journal.get(..30).map(stamp_of);
-            seen.insert(("below the first", (used > 1 && first > Some(stamp)).into()));
-            seen.insert(("below what is not in use", (used == 0 && first > Some(stamp)).into()));
-            seen.insert(("full and all clean", (used == room && used > 0 && noted == 0 && start < end).into()));
+            done_pass(&case, &answer, &image, &journal, &mut seen);
         } else {
             assert!(image == case.image && journal == case.journal);
-            seen.insert(("backwards", (answer.number == 14 && start > end).into()));
-            seen.insert(("beyond by one", (answer.number == 14 && end == records + 1).into()));
-            seen.insert(("far beyond", (answer.number == 14 && end == usize::MAX).into()));
-            seen.insert(("odd length", (answer.number == 12 && case.image.len() % 10 != 0).into()));
-            seen.insert(("too long", (answer.number == 12 && case.image.len() == 65_540).into()));
-            let needed = 30 * (used.min(room) + answer.told);
-            seen.insert(("short by", if answer.number == 13 { needed - case.journal.len() } else { 0 }));
-            seen.insert(("short by what is in use", (answer.number == 13 && answer.told <= room).into()));
-            seen.insert(("one too many in use", (answer.number == 17 && used == room + 1).into()));
-            seen.insert(("far too many in use", (answer.number == 17 && used == usize::MAX).into()));
-            seen.insert(("cut short they would fit", (answer.number == 17 && used as u32 as usize <= room).into()));
-            seen.insert(("lower by one", (answer.number == 16 && last == stamp.checked_add(1)).into()));
-            seen.insert(("not below the first", (answer.number == 16 && stamp >= stamp_of(&case.journal)).into()));
-            seen.insert(("lower, and nothing to write", (answer.number == 16 && start == end).into()));
+            refused_pass(&case, &answer, &mut seen);
         }
     }
     assert!(tally.iter().all(|&count| count > 1_000), "{:?}", tally);
@@ -325,60 +345,81 @@ fn bits_between(one: &[u8], other: &[u8]) -> u32 {
     one.iter().zip(other).map(|(one, other)| (one ^ other).count_ones()).sum()
 }
 
+/// Shapes of put-backs by their number, and whether they were met.
+type Backs = HashSet<(usize, &'static str, bool)>;
+
+/// The shapes of a put-back's case that is refused by 12 or 17.
+fn refused_back(case: &BackCase, number: usize, seen: &mut Backs) {
+    let (room, bytes, used) = (case.journal.len() / 30, case.image.len(), case.used);
+    seen.insert((12, "a byte too long", number == 12 && bytes % 10 == 1 && bytes < 65_530));
+    seen.insert((12, "a byte short", number == 12 && bytes % 10 == 9));
+    seen.insert((12, "a record too long", bytes == 65_540));
+    seen.insert((12, "and over the room", number == 12 && used > room));
+    seen.insert((17, "one too many", number == 17 && used == room + 1));
+    seen.insert((17, "a byte short", number == 17 && used == room + 1 && case.journal.len() % 30 == 29));
+    seen.insert((17, "cut short they would fit", number == 17 && used as u32 as usize <= room));
+    seen.insert((17, "no room", number == 17 && room == 0));
+}
+
+/// The shapes of a done one.
+fn done_back(case: &BackCase, image: &[u8], seen: &mut Backs) {
+    let (journal, used) = (&case.journal, case.used);
+    let (room, bytes) = (journal.len() / 30, image.len());
+    let named: Vec<usize> = (0..used).map(|at| said(journal, at).0).collect();
+    seen.insert((0, "none in use", used == 0 && room > 0));
+    seen.insert((0, "room and a tail", used > 0 && used < room && journal.len() % 30 > 0));
+    seen.insert((0, "a full journal", used > 0 && 30 * used == journal.len()));
+    seen.insert((0, "no image", bytes == 0));
+    seen.insert((0, "the longest image", bytes == 65_530 && used > 0));
+    seen.insert((0, "a number of two bytes", named.iter().any(|&record| record > 255)));
+    let is_changed = |&at: &usize| said(journal, at).1 != said(journal, at).2;
+    let changed = (0..used).filter(is_changed).filter(|&at| said(journal, at).0 == named[0]).count();
+    seen.insert((0, "a record changed three times", changed > 2));
+    seen.insert((0, "nothing changed", used > 0 && image == case.image));
+}
+
+/// The shapes of one that stopped after `count` entries.
+fn stopped_back(case: &BackCase, image: &[u8], count: usize, seen: &mut Backs) {
+    let (records, used) = (image.len() / 10, case.used);
+    let (record, _, left) = said(&case.journal, used - count - 1);
+    let held = image.get(10 * record..10 * record + 10);
+    assert_ne!(held, Some(left));
+    seen.insert((18, "at the last entry", count == 0 && used > 1));
+    seen.insert((18, "at the first entry", count + 1 == used && used > 1));
+    seen.insert((18, "between", count > 1 && count + 1 < used && image != case.image));
+    seen.insert((18, "outside by one", record == records && count > 0));
+    seen.insert((18, "far outside", record == 65_535));
+    seen.insert((18, "outside by its high byte", held.is_none() && record % 256 < records));
+    seen.insert((18, "by one bit", held.map_or(false, |held| bits_between(held, left) == 1)));
+    seen.insert((18, "no image", image.is_empty()));
+}
+
 #[test]
 fn put_backs_are_done_refused_and_stopped_in_every_way() {
     let mut cases = Cases::new(12);
-    let (mut numbers, mut seen) = ([0; 19], HashSet::new());
+    let (mut numbers, mut seen) = ([0; 19], Backs::new());
     for _ in 0..4_000 {
-        let BackCase { image: before, journal, used } = cases.back();
-        let mut image = before.clone();
-        let answer = put_back(&mut image, &journal, used);
-        let (records, room, bytes) = (before.len() / 10, journal.len() / 30, before.len());
+        let case = cases.back();
+        let mut image = case.image.clone();
+        let answer = put_back(&mut image, &case.journal, case.used);
         numbers[answer.number] += 1;
         assert_eq!(answer.told, 0);
         if answer.number == 12 || answer.number == 17 {
-            assert!(image == before && answer.count == 0);
-            seen.insert((12, "a byte too long", answer.number == 12 && bytes % 10 == 1 && bytes < 65_530));
-            seen.insert((12, "a byte short", answer.number == 12 && bytes % 10 == 9));
-            seen.insert((12, "a record too long", bytes == 65_540));
-            seen.insert((12, "and over the room", answer.number == 12 && used > room));
-            seen.insert((17, "one too many", answer.number == 17 && used == room + 1));
-            seen.insert((17, "a byte short", answer.number == 17 && used == room + 1 && journal.len() % 30 == 29));
-            seen.insert((17, "cut short they would fit", answer.number == 17 && used as u32 as usize <= room));
-            seen.insert((17, "no room", answer.number == 17 && room == 0));
+            assert!(image == case.image && answer.count == 0);
+            refused_back(&case, answer.number, &mut seen);
             continue;
         }
         // Each record holds what the first entry that was put back there says, or what it held.
-        let back = used - answer.count..used;
+        let back = case.used - answer.count..case.used;
         for (record, bytes) in image.chunks(10).enumerate() {
-            let first = back.clone().map(|at| said(&journal, at)).find(|said| said.0 == record);
-            assert_eq!(bytes, first.map_or(&before[10 * record..10 * record + 10], |said| said.1));
+            let first = back.clone().map(|at| said(&case.journal, at)).find(|said| said.0 == record);
+            assert_eq!(bytes, first.map_or(&case.image[10 * record..10 * record + 10], |said| said.1));
         }
-        let named: Vec<usize> = back.clone().map(|at| said(&journal, at).0).collect();
         if answer.number == 0 {
-            assert_eq!(answer.count, used);
-            seen.insert((0, "none in use", used == 0 && room > 0));
-            seen.insert((0, "room and a tail", used > 0 && used < room && journal.len() % 30 > 0));
-            seen.insert((0, "a full journal", used > 0 && 30 * used == journal.len()));
-            seen.insert((0, "no image", bytes == 0));
-            seen.insert((0, "the longest image", bytes == 65_530 && used > 0));
-            seen.insert((0, "a number of two bytes", named.iter().any(|&record| record > 255)));
-            let is_changed = |&at: &usize| said(&journal, at).1 != said(&journal, at).2;
-            let changed = back.filter(is_changed).filter(|&at| said(&journal, at).0 == named[0]).count();
-            seen.insert((0, "a record changed three times", changed > 2));
-            seen.insert((0, "nothing changed", used > 0 && image == before));
+            assert_eq!(answer.count, case.used);
+            done_back(&case, &image, &mut seen);
         } else {
-            let (record, _, left) = said(&journal, used - answer.count - 1);
-            let held = image.get(10 * record..10 * record + 10);
-            assert_ne!(held, Some(left));
-            seen.insert((18, "at the last entry", answer.count == 0 && used > 1));
-            seen.insert((18, "at the first entry", answer.count + 1 == used && used > 1));
-            seen.insert((18, "between", answer.count > 1 && answer.count + 1 < used && image != before));
-            seen.insert((18, "outside by one", record == records && answer.count > 0));
-            seen.insert((18, "far outside", record == 65_535));
-            seen.insert((18, "outside by its high byte", held.is_none() && record % 256 < records));
-            seen.insert((18, "by one bit", held.map_or(false, |held| bits_between(held, left) == 1)));
-            seen.insert((18, "no image", bytes == 0));
+            stopped_back(&case, &image, answer.count, &mut seen);
         }
     }
     for (number, &count) in numbers.iter().enumerate() {

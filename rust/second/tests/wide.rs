@@ -207,7 +207,7 @@ fn the_comparison_notices_every_fault() {
 #[test]
 fn every_worked_case() {
     assert_eq!(worked_wide(&Second), Vec::<String>::new());
-    for fault in FAULTS.into_iter().filter(|&fault| fault != LeftoverPast64 && fault != LongerImages) {
+    for fault in FAULTS {
         assert_ne!(worked_wide(&Wrong(Some(fault))), Vec::<String>::new(), "{:?}", fault);
     }
 }

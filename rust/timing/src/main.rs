@@ -1,8 +1,8 @@
 //! The desk's quick pass and its plain one against three in Rust: the same images, all optimised, in one run.
 //!
 //! It prints the tables of docs/PERFORMANCE.md, nanoseconds a record, the best of many rounds; then what a single question
-//! costs; and fails where the quick pass is less than half as many times as fast as it should be, or a reading takes more
-//! than twice as long.
+//! costs. It fails where an engine in Rust takes less than half as many times the quick pass's time as its goal says; for
+//! the tables: less than half of it; or where a reading takes more than twice as long as it should.
 
 mod editions;
 mod images;
@@ -80,7 +80,8 @@ const NARROW: Goals = Goals([[100.0, 80.0, 25.0, 2.5, 9.0], [6.0, 6.0, 3.0, 3.0,
 const WIDE: Goals = Goals([[70.0, 60.0, 22.0, 2.5, 7.0], [5.0, 5.0, 3.0, 3.0, 3.5], [0.75, 0.8, 0.75, 0.9, 0.9]]);
 
 impl Goals {
-    /// A line for each engine: what should be, and in brackets what is. Whether columns and row masks reach half of it.
+    /// A line for each engine: what should be, and in brackets what is. Whether columns and row masks reach half of it, and
+    /// tables take half of the quick pass's time.
     fn held(&self, times: &[Times; 5]) -> bool {
         println!("\nThe goals, and in brackets what is reached:\n");
         println!("| | clean | one in ten | all damaged | run of 1 | run of 10 |\n|---|---|---|---|---|---|");
@@ -91,7 +92,7 @@ impl Goals {
             for (goal, times) in goals.iter().zip(times) {
                 let ratio = times[engine + 2] / times[0];
                 print!(" {} ({:.*}) |", goal, usize::from(ratio < 100.0) + usize::from(ratio < 10.0), ratio);
-                halves &= engine == 2 || ratio >= goal / 2.0;
+                halves &= ratio >= if engine == 2 { 0.5 } else { goal / 2.0 };
             }
             println!();
         }
@@ -167,7 +168,10 @@ fn main() -> ExitCode {
     println!("\n### A single question, nanoseconds\n");
     let soon = reads::table();
     if held != [true; 2] {
-        println!("\nThe quick pass is less than half as many times as fast as it should be.");
+        println!(
+            "\nAn engine in Rust takes less than half as many times the quick pass's time as its goal says; for the tables: \
+             less than half of it."
+        );
     }
     if !soon {
         println!("\nA reading takes more than twice as long as it should.");

@@ -116,6 +116,24 @@ fn a_code_that_is_made_is_a_code_file_of_either_edition() {
 }
 
 #[test]
+fn either_corner_of_the_check_columns_may_be_the_empty_one() {
+    let room = Room::new();
+    let of = |columns: &str, row: usize| {
+        format!("family = \"rows\"\nedition = 64\nr = 4\nrows = [{}]\ncolumns = [{}]\n", row, columns)
+    };
+    for (columns, row) in [("7, 1, 3, 5, 9", 0), ("14, 9, 10, 12, 8", 3)] {
+        room.write("rows.toml", of(columns, row).as_bytes());
+        room.says(&["code", "judge", "rows.toml"]);
+    }
+    // Column 1 of them has a one in row 3, and the others have one in row 0.
+    room.write("rows.toml", of("7, 1, 11, 5, 9", 0).as_bytes());
+    let says = room.says_no(&["code", "judge", "rows.toml"], 1, "by reason 3 (rows.toml, line 5)");
+    for words in ["none has a one in a row of a lower number than its own,", "or none in a row of a higher one."] {
+        assert!(says.contains(words), "{} is not in {}", words, says);
+    }
+}
+
+#[test]
 fn a_wrong_code_file_gets_line_and_reason() {
     let room = Room::new();
     let cases: &[(&str, i32, &str)] = &[
@@ -146,16 +164,11 @@ fn a_wrong_code_file_gets_line_and_reason() {
     room.says_no(&["code", "judge", "f.toml"], 3, "no text in UTF-8");
 }
 
-#[test]
-fn a_refusal_has_number_and_what_to_do() {
-    let room = Room::new();
-    room.write("odd", &[0; 19]);
-    room.write("long", &vec![0; 65_540]);
-    room.write("changed", &[1; 20]);
-    room.says(&["pass", "code.toml", "image", "journal", "--stamp", "1000"]);
+/// Questions that the desk refuses, each by its number, in the room of the test below.
+fn refused() -> Vec<(usize, Vec<&'static str>)> {
     let sheet =
         |figure: &'static str| vec!["sheet", "--devices", "4", "--words", "8", "--mended", "1", "--hours", figure];
-    let cases: Vec<(usize, Vec<&str>)> = vec![
+    vec![
         (1, vec!["code", "make", "65"]),
         (2, vec!["code", "make", "8", "2"]),
         (15, vec!["code", "make", "12", "5"]),
@@ -179,8 +192,17 @@ fn a_refusal_has_number_and_what_to_do() {
         (22, vec!["word", "recover", "code.toml", "A6", "19", "--bad", "d8"]),
         (22, vec!["word", "recover", "code.toml", "A6", "19", "--bad", "c5"]),
         (23, vec!["word", "recover", "code.toml", "A6", "1B"]),
-    ];
-    for (number, asked) in cases {
+    ]
+}
+
+#[test]
+fn a_refusal_has_number_and_what_to_do() {
+    let room = Room::new();
+    room.write("odd", &[0; 19]);
+    room.write("long", &vec![0; 65_540]);
+    room.write("changed", &[1; 20]);
+    room.says(&["pass", "code.toml", "image", "journal", "--stamp", "1000"]);
+    for (number, asked) in refused() {
         let says = room.says_no(&asked, 1, &format!("refused {}: ", number));
         assert!(says.contains("What to do: "), "{}", says);
         let told = desk(&room, &[&["--json"][..], &asked].concat());

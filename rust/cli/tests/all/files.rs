@@ -108,12 +108,15 @@ fn a_stop_at_any_step_loses_nothing() {
         for kind in ["before", "resumable", "after"] {
             assert!(kinds.contains(&kind), "{} was not met in {:?}", kind, kinds);
         }
-        // Both drafts are synced before anything is renamed; then the journal, synced; the image last.
-        let draft = ["make a draft", "write a half", "write a half", "set the permissions", "sync the draft"];
+        // Both drafts are synced before anything is renamed; then the journal, synced; the image last. A new journal has
+        // no permissions to keep.
+        let replaced = ["make a draft", "write a half", "write a half", "set the permissions", "sync the draft"];
+        let made = ["make a draft", "write a half", "write a half", "sync the draft"];
         let put = ["rename the draft", "sync the folder"];
         let of =
             |steps: &[&str], name: &str| steps.iter().map(|step| format!("{} of {}", step, name)).collect::<Vec<_>>();
-        let expected = [of(&draft, "journal"), of(&draft, "image"), of(&put, "journal"), of(&put, "image")].concat();
+        let journal = of(if with_journal { &replaced } else { &made }, "journal");
+        let expected = [journal, of(&replaced, "image"), of(&put, "journal"), of(&put, "image")].concat();
         let step = |said: &String| Some(said.lines().next()?.split_once(": ")?.1.to_string());
         let steps: Vec<String> = says.iter().filter_map(step).filter(|step| !step.contains("lock")).collect();
         assert_eq!(steps, expected);
@@ -317,6 +320,58 @@ fn permissions_and_links_stay() {
     assert_eq!(std::fs::metadata(room.path("image")).unwrap().permissions().mode() & 0o777, 0o640);
     assert!(std::fs::symlink_metadata(room.path("journal")).unwrap().file_type().is_symlink());
     assert_eq!(room.read("real").len(), 4 * 30);
+}
+
+/// The permissions of a file.
+fn mode(room: &Room, name: &str) -> u32 {
+    std::fs::metadata(room.path(name)).unwrap().permissions().mode() & 0o777
+}
+
+/// A question that is asked under this umask.
+fn under(umask: &str, room: &Room, asked: &[&str]) -> Command {
+    let asked = command(room, asked);
+    let mut under = Command::new("sh");
+    under.args(["-c", "umask $0; exec \"$@\"", umask]).arg(asked.get_program()).args(asked.get_args());
+    under.current_dir(room.path(""));
+    under
+}
+
+#[test]
+fn new_files_keep_to_the_umask() {
+    for (umask, expected) in [("022", 0o644), ("027", 0o640), ("077", 0o600), ("000", 0o666)] {
+        let room = before(false);
+        for asked in [
+            &PASS[..],
+            &["put-back", "image", "journal", "--out", "as-read"],
+            &["report", "code.toml", "image", "journal", "--out", "page"],
+            &["code", "make", "8", "--out", "made"],
+        ] {
+            assert_eq!(status(&under(umask, &room, asked).output().unwrap()), 0);
+        }
+        for name in ["journal", "as-read", "page", "made"] {
+            assert_eq!(mode(&room, name), expected, "{} under {}", name, umask);
+        }
+    }
+}
+
+#[test]
+fn a_draft_is_no_more_open_than_its_file() {
+    let mut met = 0;
+    for at in 1.. {
+        let room = before(true);
+        for name in ["image", "journal"] {
+            std::fs::set_permissions(room.path(name), PermissionsExt::from_mode(0o600)).unwrap();
+        }
+        let stopped = under("000", &room, &PASS).env("DESK_STOP_AT", at.to_string()).output().unwrap();
+        for draft in room.names().iter().filter(|name| name.contains("desk-draft")) {
+            assert_eq!(mode(&room, draft), 0o600, "{} before step {}", draft, at);
+            met += 1;
+        }
+        if status(&stopped) == 0 {
+            break;
+        }
+    }
+    assert!(met > 10, "{}", met);
 }
 
 #[test]

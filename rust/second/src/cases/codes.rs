@@ -1,7 +1,7 @@
 //! Codes: sound ones of every shape, and damaged ones.
 
 use super::{CasesOf, HUGE};
-use crate::code::{Code, Coded, Hsiao};
+use crate::code::{Coded, Hsiao};
 
 /// Shapes that are asked more often: the fullest of each r, the sample's, the largest, the smallest.
 const FAVOURED: [(usize, usize); 10] =
@@ -22,12 +22,7 @@ pub fn shapes(columns: &[Vec<u16>], most: usize) -> Vec<(usize, usize)> {
     (3..=16).flat_map(|r| (1..=columns[r].len().min(most)).map(move |k| (k, r))).collect()
 }
 
-/// Every k and r that a code is asked to be made for: all within the limits, and many out of them.
-pub fn asked_shapes() -> impl Iterator<Item = (usize, usize)> {
-    asked_shapes_in::<Code>()
-}
-
-/// The same in any edition.
+/// Every k and r that a code of an edition is asked to be made for: all within the limits, and many out of them.
 pub fn asked_shapes_in<C: Coded>() -> impl Iterator<Item = (usize, usize)> {
     (0..=C::PLACES + 6).chain(HUGE).flat_map(|k| (0..=20).chain(HUGE).map(move |r| (k, r)))
 }

@@ -19,7 +19,7 @@ use std::rc::Rc;
 
 pub use backs::BackCase;
 pub use bad::{sets_of_places, BadCase, FindCase};
-pub use codes::{asked_shapes, asked_shapes_in};
+pub use codes::asked_shapes_in;
 pub use images::{ImageCase, TurnsCase};
 pub use orders::{OrdersCase, OverlapCase};
 pub use stations::edges;
