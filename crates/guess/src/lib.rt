@@ -1,4 +1,4 @@
-// Places by a guess that is checked.
+// Places by a guess that is checked: a table of 512 slots by a column's low nine bits, so that most places are found in one look.
 ghost use mathlib.Core.Path.{_≡_};
 ghost use Prim.Native.Nat.{_<_};
 ghost use lib.ListN.{length};

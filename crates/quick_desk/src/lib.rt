@@ -13,9 +13,10 @@ use record::WIDE_DATA;
 use rows::RowCode;
 use rows::WideRowCode;
 
-// A run of so few records is passed over by the plain pass before the tables of the quick one are filled.
-const FEW: usize = 4;
+// The plain pass is done with so few records before the quick one has filled its tables.
+const FEW: usize = 1;
 
+// Either engine gives the same answer, so nothing is promised of this choice. A run turned round goes to the plain pass, which refuses it.
 fn few(start: usize, end: usize) -> bool {
     if end <= start {
         return true;

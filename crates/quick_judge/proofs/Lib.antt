@@ -1,2 +1,1 @@
-pub mod Branchless
 pub mod Accepts

@@ -30,15 +30,21 @@ fn in_limits(most: usize, k: usize, r: usize) -> bool
     r <= 16
 }
 
-// A column by itself: below 2^r, odd within the rows, and no single one unless these may stand. Without a branch, as most columns are fine.
+// A column by itself: below 2^r, odd within the rows, and no single one unless these may stand.
 fn fine(c: u16, r: usize, rows: u16, singles: bool) -> bool
     requires { ⌜ r ≤ 16 ⌝ }
     ensures { λ b. ⌜ b ≡ fineColumn r rows singles c ⌝ }
 {
-    let narrow = !faults::too_wide(c, r);
-    let odd = parity::odd(c & rows);
-    let many = parity::weight(c) != 1;
-    narrow & odd & (singles | many)
+    if faults::too_wide(c, r) {
+        return false;
+    }
+    if !parity::odd(c & rows) {
+        return false;
+    }
+    if singles {
+        return true;
+    }
+    parity::weight(c) != 1
 }
 
 // The column at i is fine, and no earlier one equals it.
@@ -47,8 +53,10 @@ fn settled(columns: &[u16], guesses: &[u8], r: usize, rows: u16, singles: bool, 
     requires { ⌜ Guessed (now columns) (now guesses) ⌝ }
     ensures { λ b. ⌜ b ≡ settledAt (now (columns .entry)) r rows singles i ⌝ }
 {
-    let again = guess::own_place(columns, guesses, i) < i;
-    !again & fine(columns[i], r, rows, singles)
+    if guess::own_place(columns, guesses, i) < i {
+        return false;
+    }
+    fine(columns[i], r, rows, singles)
 }
 
 // So for all columns.

@@ -15,7 +15,7 @@ use Rattle.word.proofs.Strays.{data-fits}
 use Rattle.mending.proofs.Parts.{parts-of-number, parts-unstrayed, flipped-parts}
 use Rattle.mending.proofs.Strays.{number-fits}
 use Rattle.reach.specs.Places.{misnamed}
-use Rattle.reach.specs.BySyndrome.{nearBy, orElse, reachBy}
+use Rattle.reach.specs.BySyndrome.{nearBy, unlessReached, reachBy}
 use Rattle.reach.proofs.Places.{named-first}
 
 -- the places behind the first, with their end named as the code lends them
@@ -39,11 +39,11 @@ module _ (cs : List ℕ) (k flips : ℕ) (w : Word) where
 
   pub reach-first : (ps : List ℕ) → length ps ≢ 0
       → reachBy cs k flips w ps
-      ≡ orElse (reachBy cs k flips w (behind ps)) (reachBy cs k flips (flippedIn k (getD ps 0 0) w) (behind ps))
+      ≡ unlessReached (reachBy cs k flips w (behind ps)) (reachBy cs k flips (flippedIn k (getD ps 0 0) w) (behind ps))
   unfolding reachBy
   reach-first [] h = absurd (h refl)
   reach-first (p ∷ ps) h =
-      ap (λ (qs : List ℕ). orElse (reachBy cs k flips w qs) (reachBy cs k flips (flippedIn k p w) qs)) (sym (rest-all (p ∷ ps) 1))
+      ap (λ (qs : List ℕ). unlessReached (reachBy cs k flips w qs) (reachBy cs k flips (flippedIn k p w) qs)) (sym (rest-all (p ∷ ps) 1))
 
 -- a word without stray bits has none with a place below n turned
 pub turned-whole : (n k p : ℕ) (w : Word) → w .low < 2 ^ 64 → k ≤ n → p < n → strayIn n k w ≡ false → strayIn n k (flippedIn k p w) ≡ false

@@ -13,7 +13,7 @@ use Rattle.word.specs.Word.{flippedIn}
 use Rattle.reach.proofs.Reached.{the-type}
 use Rattle.reach.specs.declared.Reached.{Reached}
 use Rattle.reach.specs.declared.Reached.the-variants.{Nothing, Proper}
-use Rattle.reach.specs.BySyndrome.{nearBy, orElse}
+use Rattle.reach.specs.BySyndrome.{nearBy, unlessReached}
 
 module _ (cs : List ℕ) (k flips s : ℕ) (w : Word) where
   pub near-zero : s ≡ 0 → nearBy cs k flips s w ≡ Proper w
@@ -35,6 +35,6 @@ module _ (cs : List ℕ) (k flips s : ℕ) (w : Word) where
       near-away h = simp (ne-eqb s 0 some, ne-eqb flips 0 spare, le-ltb (placeIn cs s) (length cs) h)
 
 -- what was found is the answer
-pub found-first : (a b : Reached) → OneOf (1 ∷ []) (tagOf the-type a) → orElse a b ≡ a
+pub found-first : (a b : Reached) → OneOf (1 ∷ []) (tagOf the-type a) → unlessReached a b ≡ a
 found-first Nothing b h = absurd (miss (1 ∷ []) 0 tt h)
 found-first (Proper w) b h = refl

@@ -19,11 +19,11 @@ nearBy cs k flips s w =
     (cond (ltb (placeIn cs s) (length cs)) (Proper (flippedIn k (placeIn cs s) w)) Nothing))
 
 -- the first that was found
-abbrev pub orElse : Reached → Reached → Reached
-orElse Nothing b = b
-orElse (Proper w) b = Proper w
+abbrev pub unlessReached : Reached → Reached → Reached
+unlessReached Nothing b = b
+unlessReached (Proper w) b = Proper w
 
 -- and with any of the bad places turned
 unfoldable pub reachBy : List ℕ → ℕ → ℕ → Word → List ℕ → Reached
 reachBy cs k flips w [] = nearBy cs k flips (mix cs (asNumber k w)) w
-reachBy cs k flips w (p ∷ ps) = orElse (reachBy cs k flips w ps) (reachBy cs k flips (flippedIn k p w) ps)
+reachBy cs k flips w (p ∷ ps) = unlessReached (reachBy cs k flips w ps) (reachBy cs k flips (flippedIn k p w) ps)

@@ -20,11 +20,11 @@ use Rattle.listing.specs.BySyndrome.{bySyndrome}
 use Rattle.explain.proofs.BySyndrome.{by-syndrome}
 use Rattle.reach.specs.declared.Reached.the-variants.{Nothing, Proper}
 use Rattle.reach.specs.Places.{misnamed}
-use Rattle.reach.specs.BySyndrome.{nearBy, orElse, reachBy}
+use Rattle.reach.specs.BySyndrome.{nearBy, unlessReached, reachBy}
 use Rattle.recover.specs.Recover.{turnings, properNear, properAmong, firstOf}
 use Rattle.reach.proofs.Places.{named-first}
 
-first-append : (k : ℕ) (a b : List ℕ) → firstOf k (a ++ b) ≡ orElse (firstOf k a) (firstOf k b)
+first-append : (k : ℕ) (a b : List ℕ) → firstOf k (a ++ b) ≡ unlessReached (firstOf k a) (firstOf k b)
 first-append k [] b = refl
 first-append k (u ∷ a) b = refl
 
@@ -66,7 +66,7 @@ module _ (rows : ℕ) {cs : List ℕ} {k r : ℕ} (sound : Sound (oddIn rows) cs
       ∙ ap (firstOf k) (sym (append-nil (properNear rows cs k flips w)))
   by-syndromes (p ∷ ps) w fits named =
       let x = named-first (length cs) p ps named in
-      ap₂ orElse (by-syndromes ps w fits (x .2))
+      ap₂ unlessReached (by-syndromes ps w fits (x .2))
       (ap (λ (v : Word). reachBy cs k flips v ps) (flipped-parts k p w)
       ∙ by-syndromes ps (flipped w p) (flip-lt (length cs) w p fits (x .0)) (x .2))
       ∙ sym (first-append k (properAmong rows cs k flips (turnings w ps)) (properAmong rows cs k flips (turnings (flipped w p) ps)))

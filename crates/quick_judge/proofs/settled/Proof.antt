@@ -1,17 +1,14 @@
 -- `quick_judge::settled` meets its contract. Assumes nothing.
-use mathlib.Core.Path.{_≡_, ap, ap₂, _∙_}
-use mathlib.Core.Bool.{Bool, not, _&&_}
-use Prim.Native.Nat.{ℕ}
-use lib.Dec.{ltb}
-use Rattle.columns.specs.Mix.{column, placeIn}
-use Rattle.quick_judge.specs.Quick.{fineColumn}
-use Rattle.quick_judge.proofs.Branchless.{unless}
+use borrow.Author.Tests.{lt-ltb, le-ltb}
 use borrow.Author.Needs.{needs}
 use Rattle.quick_judge.proofs.settled.Statement.{statement}
 use Rattle.quick_judge.proofs.settled.Tie as tie
 
 own-place-requires : tie.Need-own-place-requires
 own-place-requires c κs = search needs
+
+returns : tie.Need-returns
+returns c = simp (lt-ltb _ _ (rw (c .before .own-place .ensures) at (c .if1 .taken)))
 
 mul-fine : tie.Need-mul-fine
 mul-fine c = search needs
@@ -22,13 +19,12 @@ shared-slice-read-fine c = search needs
 fine-requires : tie.Need-fine-requires
 fine-requires c κs = search needs
 
-returns : tie.Need-returns
-returns c =
-    let o = c .before .before in
-    let a = o .before .before .before .args in
-    let cs = a .columns .now in
-    ap₂ (λ (p : ℕ) (f : Bool). not (ltb p (a .i)) && f) (o .own-place .ensures) (c .fine .ensures)
-    ∙ unless (ltb (placeIn cs (column cs (a .i))) (a .i)) (fineColumn (a .r) (a .rows) (a .singles) (column cs (a .i)))
+returns-2 : tie.Need-returns-2
+returns-2 c =
+    let e = c .before .before in
+    simp (le-ltb _ _ (rw (e .before .own-place .ensures) at (e .if1 .left))) (c .fine .ensures)
 
 pub settled-spec : {M : Type 1} → statement M
-settled-spec = tie.close (tie.spec own-place-requires mul-fine shared-slice-read-fine fine-requires returns)
+settled-spec =
+    tie.close
+    (tie.spec own-place-requires returns mul-fine shared-slice-read-fine fine-requires returns-2)

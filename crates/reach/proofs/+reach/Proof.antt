@@ -4,7 +4,7 @@ use Prim.Native.Nat.{ℕ, _-_, _^_, _<_}
 use native.Mathlib.Omega.{arith}
 use lib.ListN.{length, getD}
 use Rattle.word.specs.Word.{strayIn, flippedIn}
-use Rattle.reach.specs.BySyndrome.{orElse, reachBy}
+use Rattle.reach.specs.BySyndrome.{unlessReached, reachBy}
 use Rattle.reach.proofs.Rows.{found-first}
 use Rattle.reach.proofs.Reaching.{behind, behind-less, named-rest, reach-none, reach-first, turned-whole}
 use borrow.Author.Needs.{needs}
@@ -74,7 +74,7 @@ returns-2 t c =
     let turned = flippedIn (a .k) (getD (a .bad .now) 0 0) (a .word) in
     let later = reachBy (a .columns .now) (a .k) (a .flips) turned (behind (a .bad .now)) in
     sym (found-first (y .reach .result) later (c .before .match .keys2))
-    ∙ ap (λ x. orElse x later) (y .reach .ensures)
+    ∙ ap (λ x. unlessReached x later) (y .reach .ensures)
     ∙ sym (reach-first (a .columns .now) (a .k) (a .flips) (a .word) (a .bad .now) (e .if1 .left))
 
 flipped-in-requires : (t : ℕ) → reach-lts.Need-flipped-in-requires (calls t) (reach-at t) reach.Post
@@ -118,7 +118,7 @@ returns-3 t c =
     let later = reachBy (a .columns .now) (a .k) (a .flips) turned (behind (a .bad .now)) in
     c .reach2 .ensures
     ∙ ap (λ v. reachBy (a .columns .now) (a .k) (a .flips) v (behind (a .bad .now))) (c .before .before .flipped-in .ensures)
-    ∙ ap (λ x. orElse x later) (sym (o .enum-told .given .1) ∙ y .reach .ensures)
+    ∙ ap (λ x. unlessReached x later) (sym (o .enum-told .given .1) ∙ y .reach .ensures)
     ∙ sym (reach-first (a .columns .now) (a .k) (a .flips) (a .word) (a .bad .now) (e .if1 .left))
 
 pub +reach-spec : {M : Type 1} → statement M
