@@ -41,8 +41,11 @@ impl<C: Chosen> CasesOf<C> {
             }
             columns.push(column);
         }
-        let mut data: Vec<u16> = (1..=u32::from(all)).map(|column| column as u16).collect();
-        data.retain(|&column| is_odd(column) && !columns.contains(&column));
+        // A switch for each number that is a check column: there are up to 65,535 to be asked.
+        let mut is_check = vec![false; usize::from(all) + 1];
+        columns.iter().for_each(|&column| is_check[usize::from(column)] = true);
+        let mut data: Vec<u16> = (1..=all).collect();
+        data.retain(|&column| is_odd(column) && !is_check[usize::from(column)]);
         match self.random.below(3) {
             0 => data.sort_by_key(|column| column.count_ones()),
             _ => self.random.shuffle(&mut data, k),
