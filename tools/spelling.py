@@ -143,19 +143,23 @@ def table(names):
 
 
 def respell(text, turned, fields, quoted):
+    # a module under a name of its own: what stands behind its dot is a name of that module
+    modules = set(re.findall(r"use [\w.'-]+ as ([\w'-]+)", text))
+
     def one(m):
         word = m.group(0)
         if word not in turned:
             return word
-        if m.start() and text[m.start() - 1] == "." and word not in fields:
-            return word
+        if m.start() and m.string[m.start() - 1] == "." and word not in fields:
+            head = re.search(r"([\w'-]+)\.$", m.string[: m.start()])
+            if not head or head.group(1) not in modules:
+                return word
         return turned[word]
 
     if not quoted:
         return WORD.sub(one, text)
     parts = re.split(r'("(?:\\.|[^"\\\n])*")', text)
     for i in range(0, len(parts), 2):
-        text = parts[i]
         parts[i] = WORD.sub(one, parts[i])
     return "".join(parts)
 
@@ -165,31 +169,33 @@ def spans(text, turned, fields):
     return re.sub(r"`[^`\n]+`", lambda m: respell(m.group(0), turned, fields | set(turned), False), text)
 
 
-def main():
+def run():
     names = Names(antt())
     turned = table(names)
     if "--list" in sys.argv:
         for a, b in sorted(turned.items()):
             print(a, b)
-        return
+        return 0
     changed = 0
     pages = ["README.md"] + glob.glob("docs/**/*.md", recursive=True)
+    outside = {a: b for a, b in turned.items() if re.search(r"[A-Z-]", a)}
     for path in antt() + sorted(glob.glob("crates/*/src/**/*.rt", recursive=True)) + pages:
         with open(path, encoding="utf-8") as f:
             text = f.read()
         if path.endswith(".md"):
-            new = spans(text, {a: b for a, b in turned.items() if re.search(r"[A-Z-]", a)}, names.fields)
+            new = spans(text, outside, names.fields)
+        elif path.endswith(".rt"):
+            new = respell(text, outside, names.fields, True)
         else:
-            if path.endswith(".rt"):
-                here = {a: b for a, b in turned.items() if re.search(r"[A-Z-]", a)}
-            else:
-                here = turned
-            new = respell(text, here, names.fields, path.endswith(".rt"))
+            new = respell(text, turned, names.fields, False)
         if new != text:
             changed += 1
             with open(path, "w", encoding="utf-8") as f:
                 f.write(new)
     print(f"{len(turned)} names turned, in {changed} files")
+    return changed
 
 
-main()
+# a name that was turned may be a part of another one
+while run():
+    pass

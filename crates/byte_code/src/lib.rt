@@ -6,12 +6,12 @@ use byte_parts::Parts;
 
 // The number of a byte: a kind of its own, so that it is not taken for a place.
 #[repr(C)]
-#[derive(Drop)]
+#[derive(Clone, Copy)]
 pub struct ByteNumber(pub usize);
 
 // The answer to writing: the whole word.
 #[repr(C)]
-#[derive(Drop)]
+#[derive(Clone, Copy)]
 pub struct ByteWriting {
     pub number: usize,
     pub told: usize,
@@ -20,7 +20,7 @@ pub struct ByteWriting {
 
 // The answer to reading: verdict, byte number, and the word put right or as read.
 #[repr(C)]
-#[derive(Drop)]
+#[derive(Clone, Copy)]
 pub struct ByteReading {
     pub number: usize,
     pub told: usize,
@@ -41,7 +41,7 @@ fn solves(s: Parts, i: usize) -> bool
 // The data byte that step 3 finds, or 7 where it finds none.
 fn solution_in(s: Parts) -> usize
     requires { s.first < 8 }
-    ensures { result ≡ specs.solutionIn s 7 0 }
+    ensures { result ≡ specs.solution_in s 7 0 }
 {
     let mut i = 0;
     while i < 7 {
@@ -54,14 +54,14 @@ fn solution_in(s: Parts) -> usize
 }
 
 fn both_zero(a: u64, b: u64) -> bool
-    ensures { result ≡ specs.bothZero a b }
+    ensures { result ≡ specs.both_zero a b }
 {
     (a == 0) & (b == 0)
 }
 
 // Verdicts 0 and 3: no byte, and the word as read.
 fn as_read(verdict: usize, word: u64) -> ByteReading
-    ensures { result ≡ specs.asRead verdict word }
+    ensures { result ≡ specs.as_read verdict word }
 {
     ByteReading {
         number: 0,
@@ -76,7 +76,7 @@ fn as_read(verdict: usize, word: u64) -> ByteReading
 fn put_right(verdict: usize, byte: ByteNumber, pattern: u64, word: u64) -> ByteReading
     requires byte_bound { byte.0 < 10 }
     requires pattern_bound { pattern < 8 }
-    ensures { result ≡ specs.putRight verdict byte pattern word }
+    ensures { result ≡ specs.put_right verdict byte pattern word }
 {
     let at = 3 * byte.0;
     let error = pattern << at;
@@ -117,7 +117,7 @@ fn read_by(s: Parts, word: u64) -> ByteReading
 
 // The word whose data bits are those given and whose three parts are zero.
 pub fn write(data: u64) -> ByteWriting
-    ensures { result ≡ specs.byteWritingOf «data» }
+    ensures { result ≡ specs.byte_writing_of «data» }
 {
     if data >> 21 > 0 {
         return ByteWriting {
@@ -138,7 +138,7 @@ pub fn write(data: u64) -> ByteWriting
 
 // The reading of a word.
 pub fn read(word: u64) -> ByteReading
-    ensures { result ≡ specs.byteReadingOf word }
+    ensures { result ≡ specs.byte_reading_of word }
 {
     if word >> 30 > 0 {
         return ByteReading {

@@ -5,7 +5,7 @@ use Prim.Native.Nat.{ℕ, ◌*◌, ◌^◌, ◌≤◌, ◌<◌}
 use native.Mathlib.Omega.{arith}
 use borrow.Author.Tests.{ne_eqb}
 use lib.Bits.{bit_xor, xor_lt, xor_comm, xor_zero_r}
-use Rattle.parity.proofs.Xor.{xor_cancel, xor_swap, xor_undo_r, eq_of_xor-zero, xor-zero_of_eq}
+use Rattle.parity.proofs.Xor.{xor_cancel, xor_swap, xor_undo_r, eq_of_xor_zero, xor_zero_of_eq}
 use Rattle.parity.proofs.Ones.{below_or_not}
 use Rattle.byte_parts.specs.declared.Parts.{Parts}
 use Rattle.byte_code.specs.declared.ByteReading.{ByteReading}
@@ -88,7 +88,7 @@ unsolved s n q =
 -- sums that are equal, their terms exchanged
 cross : (a b c d : ℕ) → bit_xor a b ≡ bit_xor c d → bit_xor c a ≡ bit_xor d b
 cross a b c d e =
-    eq_of_xor-zero (bit_xor c a) (bit_xor d b) (xor_swap c a d b ∙ xor-zero_of_eq (bit_xor c d) (bit_xor a b) (sym e))
+    eq_of_xor_zero (bit_xor c a) (bit_xor d b) (xor_swap c a d b ∙ xor_zero_of_eq (bit_xor c d) (bit_xor a b) (sym e))
 
 cancel_right : (a b c : ℕ) → bit_xor a c ≡ bit_xor b c → a ≡ b
 cancel_right a b c e = sym (xor_undo_r a c) ∙ ap (λ (x : ℕ). bit_xor x c) e ∙ xor_undo_r b c
@@ -111,8 +111,8 @@ three i j k u v hi hj hk d hu hv nu nv e f =
     cross (power_t (2 * k) u) (power_t (2 * k) v) (power_t (2 * i) u) (power_t (2 * j) v) (sym (power_xor (2 * k) u v hu hv) ∙ f) in
     let twice = sum_twice i k u hu ∙ squares ∙ sym (sum_twice j k v hv) ∙ ap (sum_power j k) (sym same) in
     let flat = power_apart i j hi hj d p lp (cancel_right (power_t i p) (power_t j p) (power_t k p) twice) in
-    let ik = same_unless i k (λ o. nu (power_apart i k hi hk o u hu (eq_of_xor-zero (power_t i u) (power_t k u) flat))) in
-    let jk = same_unless j k (λ o. nv (power_apart j k hj hk o v hv (eq_of_xor-zero (power_t j v) (power_t k v) (sym same ∙ flat)))) in
+    let ik = same_unless i k (λ o. nu (power_apart i k hi hk o u hu (eq_of_xor_zero (power_t i u) (power_t k u) flat))) in
+    let jk = same_unless j k (λ o. nv (power_apart j k hj hk o v hv (eq_of_xor_zero (power_t j v) (power_t k v) (sym same ∙ flat)))) in
     d (ik ∙ sym jk)
 
 data_data : (i j u v : ℕ) → i < 7 → j < 7 → i ≢ j → u < 8 → v < 8 → u ≢ 0 → v ≢ 0
@@ -125,20 +125,20 @@ data_data i j u v hi hj d hu hv nu nv =
 
     one : (s.second ≡ 0) → (s.third ≡ 0) → ⊥
     one a b =
-        let e = eq_of_xor-zero (power_t i u) (power_t j v) a in
-        let f = eq_of_xor-zero (power_t (2 * i) u) (power_t (2 * j) v) b in
+        let e = eq_of_xor_zero (power_t i u) (power_t j v) a in
+        let f = eq_of_xor_zero (power_t (2 * i) u) (power_t (2 * j) v) b in
         let g = sym (power_twice i u) ∙ f ∙ power_twice j v ∙ ap (power_t j) (sym e) in
         nu (power_nonzero i u hu (power_apart i j hi hj d (power_t i u) (power_lt i u hu) g))
 
     two : (s.first ≡ 0) → (s.third ≡ 0) → ⊥
     two a b =
-        let e = eq_of_xor-zero u v a in
-        nu (twice_apart i j hi hj d u hu (eq_of_xor-zero (power_t (2 * i) u) (power_t (2 * j) v) b ∙ ap (power_t (2 * j)) (sym e)))
+        let e = eq_of_xor_zero u v a in
+        nu (twice_apart i j hi hj d u hu (eq_of_xor_zero (power_t (2 * i) u) (power_t (2 * j) v) b ∙ ap (power_t (2 * j)) (sym e)))
 
     three-zero : (s.first ≡ 0) → (s.second ≡ 0) → ⊥
     three-zero a b =
-        let e = eq_of_xor-zero u v a in
-        nu (power_apart i j hi hj d u hu (eq_of_xor-zero (power_t i u) (power_t j v) b ∙ ap (power_t j) (sym e)))
+        let e = eq_of_xor_zero u v a in
+        nu (power_apart i j hi hj d u hu (eq_of_xor_zero (power_t i u) (power_t j v) b ∙ ap (power_t j) (sym e)))
 
 -- a data byte and a check byte
 data_seven : (i u v : ℕ) → i < 7 → u < 8 → v < 8 → u ≢ 0 → v ≢ 0 → NoStep (three_parts (bit_xor u v) (power_t i u) (power_t (2 * i) u))

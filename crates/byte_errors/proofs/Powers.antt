@@ -9,7 +9,7 @@ use native.Mathlib.Omega.{arith}
 use lib.Bits.{bit_xor, xor_lt}
 use lib.Dec.{eqb, lit<}
 use borrow.Author.Tests.{eqb-true, ne_eqb}
-use Rattle.parity.proofs.Xor.{xor_assoc, xor_undo, eq_of_xor-zero, xor-zero_of_eq}
+use Rattle.parity.proofs.Xor.{xor_assoc, xor_undo, eq_of_xor_zero, xor_zero_of_eq}
 use Rattle.parity.specs.Below.{all_below}
 use Rattle.parity.proofs.Tested.{both, all_at}
 use Rattle.byte_parts.specs.Vectors.{times_t, power_t}
@@ -96,7 +96,7 @@ power_twice i v = let e : 2 * i ≡ i + i = omega arith in ap (λ (n : ℕ). pow
 -- two different powers agree on nothing but zero
 pub power_apart : (i j : ℕ) → i < 7 → j < 7 → i ≢ j → (v : ℕ) → v < 8 → power_t i v ≡ power_t j v → v ≡ 0
 power_apart i j h k d v l e =
-    sym (sum_inverted i j h k d v l).0 ∙ ap (power_t (inverse i j)) (xor-zero_of_eq (power_t i v) (power_t j v) e) ∙ power_zero (inverse i j)
+    sym (sum_inverted i j h k d v l).0 ∙ ap (power_t (inverse i j)) (xor_zero_of_eq (power_t i v) (power_t j v) e) ∙ power_zero (inverse i j)
 
 -- a power takes nothing but zero to zero
 pub power_nonzero : (i : ℕ) → (v : ℕ) → v < 8 → power_t i v ≡ 0 → v ≡ 0
@@ -110,8 +110,8 @@ power_nonzero (suc i) v l e = power_nonzero i v l (back (power_t i v) (power_lt 
 -- and no two vectors to the same
 pub power_same : (i : ℕ) → (u v : ℕ) → u < 8 → v < 8 → power_t i u ≡ power_t i v → u ≡ v
 power_same i u v h k e =
-    eq_of_xor-zero u v
-    (power_nonzero i (bit_xor u v) (xor_lt 3 u v h k) (power_xor i u v h k ∙ xor-zero_of_eq (power_t i u) (power_t i v) e))
+    eq_of_xor_zero u v
+    (power_nonzero i (bit_xor u v) (xor_lt 3 u v h k) (power_xor i u v h k ∙ xor_zero_of_eq (power_t i u) (power_t i v) e))
 
 -- the sum of two powers, twice, is the sum of the powers twice as high
 pub sum_twice : (i j v : ℕ) → v < 8 → sum_power i j (sum_power i j v) ≡ bit_xor (power_t (2 * i) v) (power_t (2 * j) v)
@@ -132,9 +132,9 @@ pub twice_apart : (i j : ℕ) → i < 7 → j < 7 → i ≢ j → (v : ℕ) → 
 twice_apart i j h k d v l e =
     let p = sum_power i j v in
     let pl = xor_lt 3 (power_t i v) (power_t j v) (power_lt i v l) (power_lt j v l) in
-    let z = sum_twice i j v l ∙ xor-zero_of_eq (power_t (2 * i) v) (power_t (2 * j) v) e in
-    let flat = power_apart i j h k d p pl (eq_of_xor-zero (power_t i p) (power_t j p) z) in
-    power_apart i j h k d v l (eq_of_xor-zero (power_t i v) (power_t j v) flat)
+    let z = sum_twice i j v l ∙ xor_zero_of_eq (power_t (2 * i) v) (power_t (2 * j) v) e in
+    let flat = power_apart i j h k d p pl (eq_of_xor_zero (power_t i p) (power_t j p) z) in
+    power_apart i j h k d v l (eq_of_xor_zero (power_t i v) (power_t j v) flat)
 
 -- the order of T is no less than 7
 pub order_least : (i v : ℕ) → 0 < i → i < 7 → v < 8 → power_t i v ≡ v → v ≡ 0

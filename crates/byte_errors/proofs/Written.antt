@@ -4,7 +4,7 @@ use Prim.Native.Nat.{ℕ, zero, suc, ◌+◌, ◌*◌, ◌/◌, ◌%◌, ◌^◌
 use native.Mathlib.Omega.{arith}
 use lib.Bits.{bit_xor, xor_lt, xor_mod}
 use lib.Pow.{shr-shr, shr_lt}
-use Rattle.parity.proofs.Xor.{eq_of_xor-zero, xor-zero_of_eq}
+use Rattle.parity.proofs.Xor.{eq_of_xor_zero, xor_zero_of_eq}
 use Rattle.byte_parts.specs.Vectors.{power_t}
 use Rattle.byte_parts.specs.Parts.{byte_at, sum_to, data_sum, parts_of}
 use Rattle.byte_code.specs.Reading.{byte_word}
@@ -58,7 +58,7 @@ written_parts d h =
     part : (step t : ℕ) → byte_at (byte_word d) t ≡ data_sum step d → bit_xor (data_sum step (byte_word d)) (byte_at (byte_word d) t) ≡ 0
     part step t e =
         let same = sym (sum_low step 7 (byte_word d) (omega arith)) ∙ ap (data_sum step) (written_data d h) in
-        xor-zero_of_eq (data_sum step (byte_word d)) (byte_at (byte_word d) t) (same ∙ sym e)
+        xor_zero_of_eq (data_sum step (byte_word d)) (byte_at (byte_word d) t) (same ∙ sym e)
 
 -- a word is its data bits and its three check bytes
 in_parts_lem : (w : ℕ) → w < 2 ^ 30 → w % 2 ^ 21 + 2 ^ 21 * byte_at w 7 + 2 ^ 24 * byte_at w 8 + 2 ^ 27 * byte_at w 9 ≡ w
@@ -85,7 +85,7 @@ clean_written w h z =
     omega (arith, in_parts_lem w h)
   where
     part : (step t : ℕ) → bit_xor (data_sum step w) (byte_at w t) ≡ 0 → data_sum step (w % 2 ^ 21) ≡ byte_at w t
-    part step t e = sum_low step 7 w (omega arith) ∙ eq_of_xor-zero (data_sum step w) (byte_at w t) e
+    part step t e = sum_low step 7 w (omega arith) ∙ eq_of_xor_zero (data_sum step w) (byte_at w t) e
 
 pub written_clean : (w : ℕ) → byte_word (w % 2 ^ 21) ≡ w → parts_of w ≡ three_parts 0 0 0
 written_clean w e = ap parts_of (sym e) ∙ written_parts (w % 2 ^ 21) (omega arith)

@@ -5,7 +5,7 @@ ghost use Rattle.byte_parts.specs.Vectors as vectors;
 ghost use Rattle.byte_parts.specs.Parts as parts;
 
 // The three parts of a syndrome.
-#[derive(Drop)]
+#[derive(Clone, Copy)]
 pub struct Parts {
     pub first: u64,
     pub second: u64,
@@ -15,7 +15,7 @@ pub struct Parts {
 // T takes (b0, b1, b2) to (b2, b0 + b2, b1), sums without carry.
 fn times_t(v: u64) -> u64
     requires { v < 8 }
-    ensures value { result ≡ vectors.timesT v }
+    ensures value { result ≡ vectors.times_t v }
     ensures upper_bound { result < 8 }
 {
     let b0 = v % 2;
@@ -27,7 +27,7 @@ fn times_t(v: u64) -> u64
 // The i-th power of T, times a vector.
 pub fn power_t(i: usize, v: u64) -> u64
     requires { v < 8 }
-    ensures value { result ≡ vectors.powerT i v }
+    ensures value { result ≡ vectors.power_t i v }
     ensures upper_bound { result < 8 }
 {
     let mut u = v;
@@ -50,7 +50,7 @@ fn byte_at(word: u64, t: usize) -> u64
 // The sum over the seven data bytes, byte t under the power `step` times t of T.
 pub fn data_sum(step: usize, word: u64) -> u64
     requires { step ≤ 2 }
-    ensures value { result ≡ parts.dataSum step word }
+    ensures value { result ≡ parts.data_sum step word }
     ensures upper_bound { result < 8 }
 {
     let mut sum: u64 = 0;

@@ -8,7 +8,7 @@ use code::{Opened, Refusal, Standing};
 
 // The answer to the card question: the first weak card and its smallest mask, where the number is 9.
 #[repr(C)]
-#[derive(Drop)]
+#[derive(Clone, Copy)]
 pub struct CardCheck {
     pub number: usize,
     pub told: usize,

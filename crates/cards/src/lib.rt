@@ -3,7 +3,7 @@ ghost use Rattle.std.specs.Prelude.{◌≡◌, ◌+◌, ◌≤◌, ◌<◌, leng
 ghost use Rattle.cards.specs.Cards.{cards_in, cut, all_cards, weak_mask, weak_mask_in, weak_card_in};
 
 // What a search finds: a card's number, and a mask of it that breaks the rule.
-#[derive(Drop)]
+#[derive(Clone, Copy)]
 pub enum Found {
     Nothing,
     At(usize, usize),

@@ -133,7 +133,7 @@ card_flagged = cards.flagged
 -- ---- the tally and the pass
 
 pub tally_counts : demands.TallyCounts
-tally_counts = tallies.tally-counts
+tally_counts = tallies.tally_counts
 
 pub pass_refuses : demands.PassRefuses
 pass_refuses = passes.pass_refuses
@@ -148,7 +148,7 @@ pub pass_outside : demands.PassOutside
 pass_outside = passes.pass_outside
 
 pub pass_of-run : demands.PassOfRun
-pass_of-run = passes.of-run
+pass_of-run = passes.of_run
 
 pub pass_records : demands.PassRecords
 pass_records = passes.pass_records
@@ -174,7 +174,7 @@ pass_in-two = passes.pass_in-two
 -- ---- any order of passes
 
 pub apart_exactly : demands.ApartExactly
-apart_exactly = orders.apart-by-ends
+apart_exactly = orders.apart-by_ends
 
 pub order_done : demands.OrderDone
 order_done = orders.order_done
@@ -194,28 +194,28 @@ shared_record = orders.shared_record
 -- ---- station sheets
 
 pub sheet_refuses : demands.SheetRefuses
-sheet_refuses = sheets.sheet-refuses
+sheet_refuses = sheets.sheet_refuses
 
 pub sheet_made : demands.SheetMade
-sheet_made = sheets.sheet-made
+sheet_made = sheets.sheet_made
 
 pub sheet_yes : demands.SheetYes
-sheet_yes = sheets.sheet-yes
+sheet_yes = sheets.sheet_yes
 
 pub counts_exact : demands.CountsExact
-counts_exact = sheets.counts-exact
+counts_exact = sheets.counts_exact
 
 pub share_nearest : demands.ShareNearest
-share_nearest = sheets.share-nearest
+share_nearest = sheets.share_nearest
 
 pub share_between : demands.ShareBetween
-share_between = sheets.share-between
+share_between = sheets.share_between
 
 pub share_ends : demands.ShareEnds
-share_ends = sheets.share-ends
+share_ends = sheets.share_ends
 
 pub station_nearest : demands.StationNearest
-station_nearest = sheets.station-nearest
+station_nearest = sheets.station_nearest
 
 -- ---- making a code
 
@@ -223,13 +223,13 @@ pub making_exactly : demands.MakingExactly
 making_exactly = making.making_exactly
 
 pub made_accepted : demands.MadeAccepted
-made_accepted = making.made-accepted-code
+made_accepted = making.made_accepted-code
 
 pub made_in_order : demands.MadeInOrder
 made_in_order = making.made_in_order
 
 pub made_least : demands.MadeLeast
-made_least = making.made-least-code
+made_least = making.made_least_code
 
 pub making_wanted : demands.MakingWanted
 making_wanted = making.making_wanted
@@ -240,43 +240,43 @@ pub matrix-t : demands.MatrixT
 matrix-t = bytes.matrix-t
 
 pub order_of_t : demands.OrderOfT
-order_of_t = bytes.order-of-t
+order_of_t = bytes.order_of_t
 
 pub sums_inverted : demands.SumsInverted
-sums_inverted = bytes.sums-inverted
+sums_inverted = bytes.sums_inverted
 
 pub byte_writing_refuses : demands.ByteWritingRefuses
-byte_writing_refuses = bytes.byte-writing-refuses
+byte_writing_refuses = bytes.byte_writing_refuses
 
 pub byte_word_lem : demands.ByteWord
-byte_word_lem = bytes.byte_word
+byte_word_lem = bytes.byte_word_lem
 
 pub byte_checks : demands.ByteChecks
-byte_checks = bytes.byte-checks
+byte_checks = bytes.byte_checks
 
 pub byte_reading_refuses : demands.ByteReadingRefuses
-byte_reading_refuses = bytes.byte-reading-refuses
+byte_reading_refuses = bytes.byte_reading_refuses
 
 pub byte_steps : demands.ByteSteps
-byte_steps = bytes.byte-steps
+byte_steps = bytes.byte_steps
 
 pub byte_clean : demands.ByteClean
-byte_clean = bytes.byte-clean
+byte_clean = bytes.byte_clean
 
 pub byte_left : demands.ByteLeft
 byte_left = bytes.byte_left
 
 pub byte_mended : demands.ByteMended
-byte_mended = bytes.byte-mended
+byte_mended = bytes.byte_mended
 
 pub byte_samples : demands.ByteSamples
-byte_samples = bytes.byte-samples
+byte_samples = bytes.byte_samples
 
 pub byte_one : demands.ByteOne
 byte_one = bytes.byte_one
 
 pub byte_two : demands.ByteTwo
-byte_two = bytes.byte-two
+byte_two = bytes.byte_two
 
 -- ---- putting back
 
@@ -336,51 +336,51 @@ found_recovered = bad.found_recovered
 -- ---- the two editions
 
 pub ten_bytes_promised : of-editions.TenBytesPromised
-ten_bytes_promised = editions.ten-bytes-promised
+ten_bytes_promised = editions.ten_bytes_promised
 
 pub wide_promised : of-editions.WidePromised
-wide_promised = editions.wide-promised
+wide_promised = editions.wide_promised
 
 pub wide_sizes : of-editions.WideSizes
-wide_sizes = editions.wide-sizes
+wide_sizes = editions.wide_sizes
 
 pub wide_lists : of-editions.WideLists
-wide_lists = editions.wide-lists
+wide_lists = editions.wide_lists
 
 pub wide_check_bits : of-editions.WideCheckBits
-wide_check_bits = editions.wide-check-bits
+wide_check_bits = editions.wide_check_bits
 
 pub ten_bytes_answers : of-editions.TenBytesAnswers
-ten_bytes_answers = editions.ten-bytes-answers
+ten_bytes_answers = editions.ten_bytes_answers
 
 pub wide_answers : of-editions.WideAnswers
-wide_answers = editions.wide-answers
+wide_answers = editions.wide_answers
 
 -- ---- codes with a chosen set of rows
 
-pub accepted-rows_exactly : of-rows.AcceptedRowsExactly
-accepted-rows_exactly = rows.accepted-rows-exactly
+pub accepted_rows_exactly : of-rows.AcceptedRowsExactly
+accepted_rows_exactly = rows.accepted-rows_exactly
 
 pub judged_rows_exactly : of-rows.JudgedRowsExactly
-judged_rows_exactly = rows.judged-rows-exactly
+judged_rows_exactly = rows.judged_rows_exactly
 
 pub rows_promised : of-rows.RowsPromised
-rows_promised = rows.rows-promised
+rows_promised = rows.rows_promised
 
-pub wide-rows_promised : of-rows.WideRowsPromised
-wide-rows_promised = rows.wide-rows-promised
+pub wide_rows_promised : of-rows.WideRowsPromised
+wide_rows_promised = rows.wide-rows_promised
 
 pub rows_answers : of-rows.RowsAnswers
-rows_answers = rows.rows-answers
+rows_answers = rows.rows_answers
 
-pub wide-rows_answers : of-rows.WideRowsAnswers
-wide-rows_answers = rows.wide-rows-answers
+pub wide_rows_answers : of-rows.WideRowsAnswers
+wide_rows_answers = rows.wide-rows_answers
 
 pub same_answers : of-rows.SameAnswers
-same_answers = rows.same-answers
+same_answers = rows.same_answers
 
 pub same_wide_answers : of-rows.SameWideAnswers
-same_wide_answers = rows.same-wide-answers
+same_wide_answers = rows.same_wide_answers
 
 -- ---- the quick engine: its answers are said by the plain one's definition
 

@@ -28,11 +28,11 @@ module _ (code : Code) (a : Accepted code) where
   recover-is : (w : ℕ) (bad : List ℕ) → recover code w bad ≡ recovered_by (goal.recover (narrow code) w bad)
   recover-is w bad = ap (λ (x : Word). recovered_by (recover_of (opened_of code) x bad)) (parts_are code a w)
 
-  given_is : (u : ℕ) → recovered_by (goal.givenBack (narrow code) u) ≡ given_back code u
+  given_is : (u : ℕ) → recovered_by (goal.given_back (narrow code) u) ≡ given_back code u
   given_is u = ap (λ (d : ℕ). record { number = 0; told = 0; «data» = d; check = check_of code.k u }) (low-is code a u)
 
   -- a word that is handed back by the one is handed back by the other
-  back : (w : ℕ) (bad : List ℕ) (u : ℕ) → goal.recover (narrow code) w bad ≡ goal.givenBack (narrow code) u
+  back : (w : ℕ) (bad : List ℕ) (u : ℕ) → goal.recover (narrow code) w bad ≡ goal.given_back (narrow code) u
       → recover code w bad ≡ given_back code u
   back w bad u e = recover-is w bad ∙ ap recovered_by e ∙ given_is u
 
@@ -124,19 +124,19 @@ finding_refuses code low check low' check' =
 
 -- the word of ones in the answer, and its parts, are the same
 module _ (code : Code) (acc : Accepted code) (a b : ℕ) (ha : Unstrayed code a) (hb : Unstrayed code b) where
-  find_is : find_bad code a b ≡ bad_places_by (goal.findBad (narrow code) a b)
+  find_is : find_bad code a b ≡ bad_places_by (goal.find_bad (narrow code) a b)
   find_is = ap₂ (λ (x y : Word). bad_places_by (find_of (opened_of code) x y)) (parts_are code acc a) (parts_are code acc b)
 
-  in_parts_lem : ((find_bad code a b).«data» ≡ data_of code.k (goal.foundIn (narrow code) a b))
-      × ((find_bad code a b).check ≡ check_of code.k (goal.foundIn (narrow code) a b))
+  in_parts_lem : ((find_bad code a b).«data» ≡ data_of code.k (goal.found_in (narrow code) a b))
+      × ((find_bad code a b).check ≡ check_of code.k (goal.found_in (narrow code) a b))
   in_parts_lem =
       let e = of_any.found_in_parts (narrow code) (accepted code acc) a b ha hb in (
         ap (λ (f : BadPlaces). f.«data») find_is ∙ ap (λ (x : Word). x.low) e ∙ low-is code acc _,
         ap (λ (f : BadPlaces). f.check) find_is ∙ ap (λ (x : Word). x.check) e,
       )
 
-  found_same : found_in code a b ≡ goal.foundIn (narrow code) a b
-  found_same = ap₂ (word_of code.k) in_parts_lem.0 in_parts_lem.1 ∙ word_of_parts code.k (goal.foundIn (narrow code) a b)
+  found_same : found_in code a b ≡ goal.found_in (narrow code) a b
+  found_same = ap₂ (word_of code.k) in_parts_lem.0 in_parts_lem.1 ∙ word_of_parts code.k (goal.found_in (narrow code) a b)
 
 pub found_exactly : demands.FoundExactly
 found_exactly code acc a b ha hb p =

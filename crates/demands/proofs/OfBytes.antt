@@ -9,7 +9,7 @@ use Rattle.byte_code.specs.declared.ByteReading.{ByteReading}
 use Rattle.byte_parts.specs.Parts.{parts_of}
 use Rattle.byte_code.specs.Reading.{byte_word}
 use Rattle.byte_code.specs.Reading.{byte_number, read_by}
-use Rattle.byte_parts.proofs.Vectors.{t-by_bits}
+use Rattle.byte_parts.proofs.Vectors.{t_by_bits}
 use Rattle.byte_code.proofs.Exactly.{write_refused, write_done, read-refused, read_done, words_written, words_mended, words_flagged}
 use Rattle.byte_errors.specs.Steps.{damaged, NoError, CheckError, DataError, NoStep}
 use Rattle.byte_errors.proofs.Powers.{inverse, order_seven, order_least, sum_inverted}
@@ -24,7 +24,7 @@ use Rattle.demands.specs.Demands as demands
 -- ---- T
 
 pub matrix-t : demands.MatrixT
-matrix-t = t-by_bits
+matrix-t = t_by_bits
 
 pub order_of_t : demands.OrderOfT
 order_of_t v h = (order_seven v h, λ i some few e. order_least i v some few h e)

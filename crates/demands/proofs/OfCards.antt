@@ -19,7 +19,7 @@ cards_refuse code b =
 
 pub flagged : demands.CardFlagged
 flagged code b h e w fits c t mask inside several =
-    let a : Accepted code = record { handed = h; number = of_any.proof-accepted (narrow code) b e } in
+    let a : Accepted code = record { handed = h; number = of_any.proof_accepted (narrow code) b e } in
     let x = of_any.flagged (narrow code) b (handed code h) e w fits (clean code a w c) t mask inside several in
     let u = flip_mask w (card_at (cards_for code b) t).place mask in (
       ⊎_elim (λ v. inl (verdict-is code a u ∙ v)) (λ v. inr (verdict-is code a u ∙ v)) x.0,

@@ -56,7 +56,7 @@ of_any given = record {
   pass_refuses = λ code. passes.pass_refuses (given code);
   pass_empty = λ code. passes.pass_empty (given code);
   pass_outside = λ code. passes.pass_outside (given code);
-  pass_of-run = λ code. passes.of-run (given code);
+  pass_of-run = λ code. passes.of_run (given code);
   pass_records = λ code. passes.pass_records (given code);
   pass_entries = λ code. passes.pass_entries (given code);
   pass_applied = λ code. passes.pass_applied (given code);
@@ -98,9 +98,9 @@ promised e own known = record {
   check_bits_least = codes.check_bits_least e known;
   check_bits_room = codes.check_bits_room e known;
   making_exactly = making.making_exactly e;
-  made_accepted = making.made-accepted-code e known;
+  made_accepted = making.made_accepted-code e known;
   made_in_order = making.made_in_order e;
-  made_least = λ code. making.made-least-code (own code);
+  made_least = λ code. making.made_least_code (own code);
   making_wanted = making.making_wanted e known;
   writing_bits = λ code. words.writing_bits (own code);
   verdicts_exactly = λ code. words.verdicts_exactly (own code);
@@ -116,10 +116,10 @@ promised e own known = record {
 }
 
 pub ten_bytes_promised : demands.TenBytesPromised
-ten_bytes_promised = promised ten_bytes demands.narrowCode ten_known
+ten_bytes_promised = promised ten_bytes demands.narrow_code ten_known
 
 pub wide_promised : demands.WidePromised
-wide_promised = promised eighteen_bytes demands.wideCode wide_known
+wide_promised = promised eighteen_bytes demands.wide_code wide_known
 
 -- ---- in numbers
 

@@ -27,7 +27,7 @@ module _ (k r : ℕ) where
   number_is : (any.made_of ten_bytes k r).number ≡ (made_of k r).number
   number_is = ap (λ (m : MadeCode). m.number) made_is
 
-  same_refusal : (n : ℕ) {P : Type 0} → ((any.made_of ten_bytes k r ≡ any.noCode ten_bytes n) ↔ P) → ((made_of k r ≡ no_code n) ↔ P)
+  same_refusal : (n : ℕ) {P : Type 0} → ((any.made_of ten_bytes k r ≡ any.no_code ten_bytes n) ↔ P) → ((made_of k r ≡ no_code n) ↔ P)
   same_refusal n x = (λ e. x.0 (made_is ∙ ap narrow_made e), λ p. ap handed-back (sym made_is ∙ x.1 p))
 
   -- a fact of the code that is made
@@ -43,9 +43,9 @@ making_exactly k r =
       (λ e. x.3.0 (number_is k r ∙ e), λ t. sym (number_is k r) ∙ x.3.1 t),
     )
 
-pub made_accepted-code : demands.MadeAccepted
-made_accepted-code k r e =
-    let y = of_any.made-accepted-code ten_bytes ten_known k r (number_is k r ∙ e) in
+pub made_accepted_code : demands.MadeAccepted
+made_accepted_code k r e =
+    let y = of_any.made_accepted-code ten_bytes ten_known k r (number_is k r ∙ e) in
     let x = of_made k r (λ (made : HsiaoCode). promises.MadeFor made k r) y in
     (accepted-back (made_of k r).code x.0, x.1, x.2, x.3, x.4)
 
@@ -57,8 +57,8 @@ pub made_least_code : demands.MadeLeast
 made_least_code code a =
     let k = code.k in
     let r = code.r in
-    let x = of_any.made-least-code (narrow_code code) (accepted code a) in
-    (sym (number_is k r) ∙ x.0, of_made k r (λ (made : HsiaoCode). all_ones (any.matrixOf (given made)) ≤ all_ones (matrix_of code)) x.1)
+    let x = of_any.made_least_code (narrow_code code) (accepted code a) in
+    (sym (number_is k r) ∙ x.0, of_made k r (λ (made : HsiaoCode). all_ones (any.matrix_of (given made)) ≤ all_ones (matrix_of code)) x.1)
 
 pub making_wanted : demands.MakingWanted
 making_wanted k r limits =

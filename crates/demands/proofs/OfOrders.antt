@@ -10,8 +10,8 @@ use Rattle.demands.specs.Demands as demands
 use Rattle.demands.specs.Editions.{narrow}
 use Rattle.demands.proofs.Narrow.{handed, accepted}
 
-pub apart-by_ends : demands.ApartExactly
-apart-by_ends = apart_exactly
+pub apart_by_ends : demands.ApartExactly
+apart_by_ends = apart_exactly
 
 pub order_done : demands.OrderDone
 order_done code a = of_any.order_done (narrow code) (accepted code a)

@@ -62,7 +62,7 @@ pub pass_outside : demands.PassOutside
 pass_outside code p s = of_any.pass_outside (narrow code) p s
 
 pub of_run : demands.PassOfRun
-of_run code p s other long same = of_any.of-run (narrow code) p s other long same
+of_run code p s other long same = of_any.of_run (narrow code) p s other long same
 
 -- ---- the word of a record has nothing in its high half
 
@@ -76,13 +76,13 @@ high_empty Odd s k w few n z = z
 high_empty Stray s k w few n z = refl
 
 module _ (code : Code) (a : Accepted code) (image : List ℕ) (i : ℕ) where
-  handed-high : (any.readAt (narrow code) image i).word.high ≡ 0
+  handed-high : (any.read_at (narrow code) image i).word.high ≡ 0
   unfolding number_of seen
   handed-high =
       let given = narrow code in
       let b = accepted code a in
       let o = any.opened given in
-      let rec = any.recordOf ten_bytes image i in
+      let rec = any.record_of ten_bytes image i in
       let f = reader_of o data_size in
       let n = ap length (columns-are given b.number) ∙ places-length given b in
       let k = data_is given b.number in
@@ -91,21 +91,21 @@ module _ (code : Code) (a : Accepted code) (image : List ℕ) (i : ℕ) where
       let top = limits.top in
       let short : length (columns_of o) ≤ o.k + 16 = omega arith in
       ap (λ x. x.word.high) (of_any.read_same given b.number image i)
-      ∙ high_empty (seen f rec) (outcome.syndromeOf f rec) o.k (word_in data_size rec) (omega arith)
+      ∙ high_empty (seen f rec) (outcome.syndrome_of f rec) o.k (word_in data_size rec) (omega arith)
       (reading_names (columns_of o) o.k short o.rows (word_in data_size rec)) refl
 
   -- so the record of the word that is handed back is that of its low half
-  record_same : outcome.recordOf data_size (any.readAt (narrow code) image i).word
-      ≡ record_bytes data_size (words.readAt code image i).«data» (words.readAt code image i).check
+  record_same : outcome.record_of data_size (any.read_at (narrow code) image i).word
+      ≡ record_bytes data_size (words.read_at code image i).«data» (words.read_at code image i).check
   unfolding number_of
   record_same =
-      let w = (any.readAt (narrow code) image i).word in
+      let w = (any.read_at (narrow code) image i).word in
       ap (λ (x : ℕ). record_bytes data_size x w.check) (ap (joined w.low) handed-high ∙ add-zero w.low)
 
 pub pass_records : demands.PassRecords
 unfolding number_of
 pass_records code h p s done i l u =
-    let a : Accepted code = record { handed = h; number = of_any.done-number (narrow code) p s done } in
+    let a : Accepted code = record { handed = h; number = of_any.done_number (narrow code) p s done } in
     let x = of_any.pass_records (narrow code) p s done i l u in
     (λ v. x.0 v ∙ record_same code a s.image i, x.1)
 
@@ -125,10 +125,10 @@ abbrev pub turns_of : List Turn → List any.Turn
 turns_of [] = []
 turns_of (x ∷ xs) = turn_of x ∷ turns_of xs
 
-pub same_after : (xs : List Turn) (s : State) → turns_after xs s ≡ any.turnsAfter ten_bytes (turns_of xs) s
-unfolding turns_after any.turnsAfter
+pub same_after : (xs : List Turn) (s : State) → turns_after xs s ≡ any.turns_after ten_bytes (turns_of xs) s
+unfolding turns_after any.turns_after
 same_after [] s = refl
-same_after (x ∷ xs) s = same_after xs (words.stateAfter x.code x.pass s)
+same_after (x ∷ xs) s = same_after xs (words.state_after x.code x.pass s)
 
 all_stamped : (xs : List Turn) → AllStamped xs → any.AllStamped (turns_of xs)
 unfolding AllStamped any.AllStamped
@@ -141,11 +141,11 @@ stamps_rise turns s small none =
 
 -- ---- counts
 
-count_same : (code : Code) (image : List ℕ) (v a n : ℕ) → any.countFrom (narrow code) image v a n ≡ count_from code image v a n
-unfolding count_from any.countFrom number_of
+count_same : (code : Code) (image : List ℕ) (v a n : ℕ) → any.count_from (narrow code) image v a n ≡ count_from code image v a n
+unfolding count_from any.count_from number_of
 count_same code image v a zero = refl
 count_same code image v a (suc n) =
-    ap (λ (m : ℕ). m + cond (eqb (words.verdictOf code image (a + n)) v) 1 0) (count_same code image v a n)
+    ap (λ (m : ℕ). m + cond (eqb (words.verdict_of code image (a + n)) v) 1 0) (count_same code image v a n)
 
 pub pass_counts : demands.PassCounts
 pass_counts code h p s done =
@@ -159,7 +159,7 @@ pass_counts code h p s done =
 
 pub pass_again : demands.PassAgain
 pass_again code h p s done =
-    let a : Accepted code = record { handed = h; number = of_any.done-number (narrow code) p s done } in
+    let a : Accepted code = record { handed = h; number = of_any.done_number (narrow code) p s done } in
     of_any.pass_again (narrow code) (handed code h) p s (inl (limits_of (narrow code) (accepted code a)).sized.few) done
 
 pub pass_in-two : demands.PassInTwo

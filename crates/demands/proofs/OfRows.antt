@@ -31,17 +31,17 @@ use Rattle.demands.specs.Rows as demands
 use Rattle.demands.specs.Rows.{chosen_ten, chosen_wide}
 use Rattle.demands.proofs.OfEditions.{of_any}
 
-pub accepted-rows_exactly : demands.AcceptedRowsExactly
-accepted-rows_exactly = (λ code. judge.accepted-rows-exactly (chosen_ten code), λ code. judge.accepted-rows-exactly (chosen_wide code))
+pub accepted_rows_exactly : demands.AcceptedRowsExactly
+accepted_rows_exactly = (λ code. judge.accepted-rows_exactly (chosen_ten code), λ code. judge.accepted-rows_exactly (chosen_wide code))
 
 pub judged_rows_exactly : demands.JudgedRowsExactly
-judged_rows_exactly = (λ code. judge.judged-rows-exactly (chosen_ten code), λ code. judge.judged-rows-exactly (chosen_wide code))
+judged_rows_exactly = (λ code. judge.judged_rows_exactly (chosen_ten code), λ code. judge.judged_rows_exactly (chosen_wide code))
 
 pub rows_promised : demands.RowsPromised
 rows_promised = of_any (λ (code : RowCode). chosen_of (chosen_ten code))
 
-pub wide-rows_promised : demands.WideRowsPromised
-wide-rows_promised = of_any (λ (code : WideRowCode). chosen_of (chosen_wide code))
+pub wide_rows_promised : demands.WideRowsPromised
+wide_rows_promised = of_any (λ (code : WideRowCode). chosen_of (chosen_wide code))
 
 -- ---- the exported answers
 
@@ -65,8 +65,8 @@ rows_answers = record {
       ap (λ (o : Opened). bad_places_by (find_of o (word_with low check) (word_with low' check'))) (opened_ten code);
 }
 
-pub wide-rows_answers : demands.WideRowsAnswers
-wide-rows_answers = record {
+pub wide_rows_answers : demands.WideRowsAnswers
+wide_rows_answers = record {
   judgement = λ code. ap judgement_in (opened_wide_lem code);
   balance = λ code. ap balances_of (opened_wide_lem code);
   written = λ code low high. ap (λ (o : Opened). writing_of o (joined low high)) (opened_wide_lem code);

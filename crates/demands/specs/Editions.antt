@@ -152,35 +152,35 @@ WideCheckBits =
 -- The promises are about what the exported functions answer, question by question: those of the ten-byte edition, whose words have nothing
 -- in their high half.
 pub record TenBytesAnswers : Type 0 where
-  pub check_bits : (k : ℕ) → of_any.checkBitsOf ten_bytes k ≡ check_bits_of k
+  pub check_bits : (k : ℕ) → of_any.check_bits_of ten_bytes k ≡ check_bits_of k
   pub made : (k r : ℕ) → of_any.made_of ten_bytes k r ≡ narrow_made (made_of k r)
-  pub judgement : (code : Code) → of_any.judgementOf (narrow code) ≡ judgement_of code
+  pub judgement : (code : Code) → of_any.judgement_of (narrow code) ≡ judgement_of code
   pub rows : (code : Code) → of_any.rows_of (narrow code) ≡ rows_of code
   pub written : (code : Code) (low : ℕ) → of_any.written_of (narrow code) low ≡ written_of code low
   pub reading : (code : Code) (low check : ℕ) → narrowed (of_any.read_of (narrow code) (word_with low check)) ≡ read_of code low check
   pub explained : (code : Code) (low check limit : ℕ) (list : List ℕ)
-      → of_any.explainedOf (narrow code) (word_with low check) limit list ≡ explained_of code low check limit list
-  pub cards : (code : Code) (b : ℕ) → of_any.cardsOf (narrow code) b ≡ cards_of code b
-  pub put_back : (image journal : List ℕ) (used : ℕ) → of_any.putBackOf ten_bytes image journal used ≡ put_back_of image journal used
+      → of_any.explained_of (narrow code) (word_with low check) limit list ≡ explained_of code low check limit list
+  pub cards : (code : Code) (b : ℕ) → of_any.cards_of (narrow code) b ≡ cards_of code b
+  pub put_back : (image journal : List ℕ) (used : ℕ) → of_any.put_back_of ten_bytes image journal used ≡ put_back_of image journal used
   pub recovered : (code : Code) (low check : ℕ) (bad : List ℕ)
-      → recovered_by (of_any.recoveredOf (narrow code) (word_with low check) bad) ≡ recovered_of code low check bad
+      → recovered_by (of_any.recovered_of (narrow code) (word_with low check) bad) ≡ recovered_of code low check bad
   pub found : (code : Code) (low check low' check' : ℕ)
-      → bad_places_by (of_any.badPlacesOf (narrow code) (word_with low check) (word_with low' check')) ≡ bad_places_of code low check low' check'
-  pub passed : (code : Code) (p : Pass) (s : State) → of_any.passedOf (narrow code) p s ≡ passed_of code p s
+      → bad_places_by (of_any.bad_places_of (narrow code) (word_with low check) (word_with low' check')) ≡ bad_places_of code low check low' check'
+  pub passed : (code : Code) (p : Pass) (s : State) → of_any.passed_of (narrow code) p s ≡ passed_of code p s
 
 -- And those of the wide edition.
 pub record WideAnswers : Type 0 where
-  pub check_bits : (k : ℕ) → of_any.checkBitsOf eighteen_bytes k ≡ wide_check_bits_of k
+  pub check_bits : (k : ℕ) → of_any.check_bits_of eighteen_bytes k ≡ wide_check_bits_of k
   pub made : (k r : ℕ) → of_any.made_of eighteen_bytes k r ≡ wide_made (wide_made_of k r)
-  pub judgement : (code : WideCode) → of_any.judgementOf (wide code) ≡ wide_judgement_of code
+  pub judgement : (code : WideCode) → of_any.judgement_of (wide code) ≡ wide_judgement_of code
   pub rows : (code : WideCode) → of_any.rows_of (wide code) ≡ wide_rows_of code
   pub written : (code : WideCode) (low high : ℕ) → of_any.written_of (wide code) (joined low high) ≡ wide_written_of code low high
   pub reading : (code : WideCode) (low high check : ℕ)
       → of_any.read_of (wide code) (wide_word low high check) ≡ wide_read_of code low high check
   pub explained : (code : WideCode) (x : Word) (limit : ℕ) (list : List ℕ)
-      → of_any.explainedOf (wide code) x limit list ≡ wide_explained_of code x limit list
-  pub cards : (code : WideCode) (b : ℕ) → of_any.cardsOf (wide code) b ≡ wide_cards_of code b
-  pub put_back : (image journal : List ℕ) (used : ℕ) → of_any.putBackOf eighteen_bytes image journal used ≡ wide_put_back_of image journal used
-  pub recovered : (code : WideCode) (x : Word) (bad : List ℕ) → of_any.recoveredOf (wide code) x bad ≡ wide_recovered_of code x bad
-  pub found : (code : WideCode) (x y : Word) → of_any.badPlacesOf (wide code) x y ≡ wide_bad_places_of code x y
-  pub passed : (code : WideCode) (p : Pass) (s : State) → of_any.passedOf (wide code) p s ≡ wide_passed_of code p s
+      → of_any.explained_of (wide code) x limit list ≡ wide_explained_of code x limit list
+  pub cards : (code : WideCode) (b : ℕ) → of_any.cards_of (wide code) b ≡ wide_cards_of code b
+  pub put_back : (image journal : List ℕ) (used : ℕ) → of_any.put_back_of eighteen_bytes image journal used ≡ wide_put_back_of image journal used
+  pub recovered : (code : WideCode) (x : Word) (bad : List ℕ) → of_any.recovered_of (wide code) x bad ≡ wide_recovered_of code x bad
+  pub found : (code : WideCode) (x y : Word) → of_any.bad_places_of (wide code) x y ≡ wide_bad_places_of code x y
+  pub passed : (code : WideCode) (p : Pass) (s : State) → of_any.passed_of (wide code) p s ≡ wide_passed_of code p s

@@ -15,10 +15,10 @@ image_back s = (put_back_of s.image s.journal s.used).image
 
 -- the entries in use, counted from the last; the image once the last m are put back; that each of them matched; that the next does not
 abbrev pub from_last : State → ℕ → Entry
-from_last s m = history.fromLast data_size s.journal s.used m
+from_last s m = history.from_last data_size s.journal s.used m
 
 abbrev pub last_back : State → ℕ → List ℕ
-last_back s m = history.lastBack data_size s.journal s.used m s.image
+last_back s m = history.last_back data_size s.journal s.used m s.image
 
 abbrev pub LastMatch : State → ℕ → Type 0
 LastMatch s m = history.LastMatch data_size s.journal s.used m s.image

@@ -55,35 +55,35 @@ WideRowsPromised = PromisedOfAny (λ (code : WideRowCode). chosen_of (chosen_wid
 
 -- The promises are about what the exported functions answer, question by question.
 pub record RowsAnswers : Type 0 where
-  pub judgement : (code : RowCode) → of_any.judgementOf (chosen_of (chosen_ten code)) ≡ rows_judgement_of code
+  pub judgement : (code : RowCode) → of_any.judgement_of (chosen_of (chosen_ten code)) ≡ rows_judgement_of code
   pub balance : (code : RowCode) → of_any.rows_of (chosen_of (chosen_ten code)) ≡ rows_balance_of code
   pub written : (code : RowCode) (low : ℕ) → of_any.written_of (chosen_of (chosen_ten code)) low ≡ rows_written_of code low
   pub reading : (code : RowCode) (low check : ℕ)
       → narrowed (of_any.read_of (chosen_of (chosen_ten code)) (word_with low check)) ≡ rows_read_of code low check
   pub explained : (code : RowCode) (low check limit : ℕ) (list : List ℕ)
-      → of_any.explainedOf (chosen_of (chosen_ten code)) (word_with low check) limit list ≡ rows_explained_of code low check limit list
-  pub cards : (code : RowCode) (b : ℕ) → of_any.cardsOf (chosen_of (chosen_ten code)) b ≡ rows_cards_of code b
-  pub passed : (code : RowCode) (p : Pass) (s : State) → of_any.passedOf (chosen_of (chosen_ten code)) p s ≡ rows_passed_of code p s
+      → of_any.explained_of (chosen_of (chosen_ten code)) (word_with low check) limit list ≡ rows_explained_of code low check limit list
+  pub cards : (code : RowCode) (b : ℕ) → of_any.cards_of (chosen_of (chosen_ten code)) b ≡ rows_cards_of code b
+  pub passed : (code : RowCode) (p : Pass) (s : State) → of_any.passed_of (chosen_of (chosen_ten code)) p s ≡ rows_passed_of code p s
   pub recovered : (code : RowCode) (low check : ℕ) (bad : List ℕ)
-      → recovered_by (of_any.recoveredOf (chosen_of (chosen_ten code)) (word_with low check) bad) ≡ rows_recovered_of code low check bad
+      → recovered_by (of_any.recovered_of (chosen_of (chosen_ten code)) (word_with low check) bad) ≡ rows_recovered_of code low check bad
   pub found : (code : RowCode) (low check low' check' : ℕ)
-      → bad_places_by (of_any.badPlacesOf (chosen_of (chosen_ten code)) (word_with low check) (word_with low' check'))
+      → bad_places_by (of_any.bad_places_of (chosen_of (chosen_ten code)) (word_with low check) (word_with low' check'))
       ≡ rows_bad_places_of code low check low' check'
 
 pub record WideRowsAnswers : Type 0 where
-  pub judgement : (code : WideRowCode) → of_any.judgementOf (chosen_of (chosen_wide code)) ≡ wide_rows_judgement_of code
+  pub judgement : (code : WideRowCode) → of_any.judgement_of (chosen_of (chosen_wide code)) ≡ wide_rows_judgement_of code
   pub balance : (code : WideRowCode) → of_any.rows_of (chosen_of (chosen_wide code)) ≡ wide_rows_balance_of code
   pub written : (code : WideRowCode) (low high : ℕ)
       → of_any.written_of (chosen_of (chosen_wide code)) (joined low high) ≡ wide_rows_written_of code low high
   pub reading : (code : WideRowCode) (low high check : ℕ)
       → of_any.read_of (chosen_of (chosen_wide code)) (wide_word low high check) ≡ wide_rows_read_of code low high check
   pub explained : (code : WideRowCode) (x : Word) (limit : ℕ) (list : List ℕ)
-      → of_any.explainedOf (chosen_of (chosen_wide code)) x limit list ≡ wide_rows_explained_of code x limit list
-  pub cards : (code : WideRowCode) (b : ℕ) → of_any.cardsOf (chosen_of (chosen_wide code)) b ≡ wide_rows_cards_of code b
-  pub passed : (code : WideRowCode) (p : Pass) (s : State) → of_any.passedOf (chosen_of (chosen_wide code)) p s ≡ wide_rows_passed_of code p s
+      → of_any.explained_of (chosen_of (chosen_wide code)) x limit list ≡ wide_rows_explained_of code x limit list
+  pub cards : (code : WideRowCode) (b : ℕ) → of_any.cards_of (chosen_of (chosen_wide code)) b ≡ wide_rows_cards_of code b
+  pub passed : (code : WideRowCode) (p : Pass) (s : State) → of_any.passed_of (chosen_of (chosen_wide code)) p s ≡ wide_rows_passed_of code p s
   pub recovered : (code : WideRowCode) (x : Word) (bad : List ℕ)
-      → of_any.recoveredOf (chosen_of (chosen_wide code)) x bad ≡ wide_rows_recovered_of code x bad
-  pub found : (code : WideRowCode) (x y : Word) → of_any.badPlacesOf (chosen_of (chosen_wide code)) x y ≡ wide_rows_bad_places_of code x y
+      → of_any.recovered_of (chosen_of (chosen_wide code)) x bad ≡ wide_rows_recovered_of code x bad
+  pub found : (code : WideRowCode) (x y : Word) → of_any.bad_places_of (chosen_of (chosen_wide code)) x y ≡ wide_rows_bad_places_of code x y
 
 -- An accepted code of Hsiao's family, its n columns handed over with all rows in the set, gets the same answer to every question.
 pub record SameAnswers : Type 0 where

@@ -85,7 +85,7 @@ passed_of code p s = after_pass (opened_of code) data_size p s
 
 -- the entries in use of a journal put back: the answer, and the image afterwards
 abbrev pub put_back_of : List ℕ → List ℕ → ℕ → Returned
-put_back_of image journal used = backwards.putBackOf data_size image journal used
+put_back_of image journal used = backwards.put_back_of data_size image journal used
 
 -- a station's sheet: a function for each kind of limit
 abbrev pub ceiling_sheet : Float → ℕ → ℕ → ℕ → Float → SheetAnswer
@@ -103,10 +103,10 @@ made_of k r = make_of k r
 
 -- a word under the byte-correcting code
 abbrev pub byte_written : ℕ → ByteWriting
-byte_written low = bytes.byteWritingOf low
+byte_written low = bytes.byte_writing_of low
 
 abbrev pub byte_read : ℕ → ByteReading
-byte_read word = bytes.byteReadingOf word
+byte_read word = bytes.byte_reading_of word
 
 -- the code word that is recovered where some places are bad
 abbrev pub recovered_by : Recovery → Recovered

@@ -64,7 +64,7 @@ wide_passed_of code p s = after_pass (opened_wide code) wide_size p s
 
 -- the entries in use of a journal put back: the answer, and the image afterwards
 abbrev pub wide_put_back_of : List ℕ → List ℕ → ℕ → Returned
-wide_put_back_of image journal used = backwards.putBackOf wide_size image journal used
+wide_put_back_of image journal used = backwards.put_back_of wide_size image journal used
 
 -- the code word that is recovered where some places are bad, and the bad places as ones
 abbrev pub wide_recovered_of : WideCode → Word → List ℕ → Recovery

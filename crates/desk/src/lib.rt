@@ -79,7 +79,7 @@ pub extern "C" fn desk_write(code: Code, data: u64) -> CheckWord
 
 // Reading: verdict, place, the word handed back, and the syndrome.
 #[repr(C)]
-#[derive(Drop)]
+#[derive(Clone, Copy)]
 pub struct ReadWord {
     pub number: usize,
     pub told: usize,
@@ -245,7 +245,7 @@ pub extern "C" fn desk_byte_read(word: u64) -> ByteReading
 
 // Places known to be bad: the code word that differs from the word as read in bad places and in few others.
 #[repr(C)]
-#[derive(Drop)]
+#[derive(Clone, Copy)]
 pub struct Recovered {
     pub number: usize,
     pub told: usize,
@@ -280,7 +280,7 @@ pub extern "C" fn desk_recover(code: Code, data: u64, check: u16, bad: &[usize])
 
 // The finder: the places where two reads agree, as ones in data and check bits.
 #[repr(C)]
-#[derive(Drop)]
+#[derive(Clone, Copy)]
 pub struct BadPlaces {
     pub number: usize,
     pub told: usize,

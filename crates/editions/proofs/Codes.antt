@@ -114,7 +114,7 @@ module _ (code : Given) (handed : goal.Handed code) where
       record { least = known.halves; most = omega arith; data_held = omega arith }
 
   pub sound_opened : SoundOpened (opened code)
-  sound_opened = hub.sound-by (standing_for code) (matrix_of code) code.k (set_of code) code.r (sound_accepted code handed)
+  sound_opened = hub.sound_by (standing_for code) (matrix_of code) code.k (set_of code) code.r (sound_accepted code handed)
 
 -- bytes, or a single half
 pub bytes_of_lem : (code : Given) (image : List ℕ) → (judgement_of code).number ≡ 0 → goal.InBytes code image

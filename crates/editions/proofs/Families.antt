@@ -29,8 +29,8 @@ use Rattle.editions.specs.Given.{Family, hsiao, chosen, places_for, standing_by,
 -- number 0 is an acceptance
 pub zero-stands : (f : Family) (most : ℕ) (columns : List ℕ) (k r : ℕ)
     → (judgement_by (standing_by f most columns k r)).number ≡ 0 → standing_by f most columns k r ≡ standing.Accepted
-zero-stands hsiao most columns k r e = ap standing_of (old.zero-accepts (judge_in most columns k r) e)
-zero-stands (chosen rows) most columns k r e = ap standing_of_rows (new.zero-accepts (judge_rows_in most columns (k + r) r rows) e)
+zero-stands hsiao most columns k r e = ap standing_of (old.zero_accepts (judge_in most columns k r) e)
+zero-stands (chosen rows) most columns k r e = ap standing_of_rows (new.zero_accepts (judge_rows_in most columns (k + r) r rows) e)
 
 -- n - r data bits are k
 same_bits : (k r : ℕ) → k + r - r ≡ k
@@ -40,7 +40,7 @@ same_bits k r = omega arith
 kept : (most : ℕ) (columns : List ℕ) (k r rows : ℕ) → standing_by (chosen rows) most columns k r ≡ standing.Accepted
     → KeptRows most columns (k + r) r rows
 kept most columns k r rows e =
-    (rows_rule most columns (k + r) r rows).0 (row-answers.accepted-of-standing (judge_rows_in most columns (k + r) r rows) e)
+    (rows_rule most columns (k + r) r rows).0 (row-answers.accepted_of_standing (judge_rows_in most columns (k + r) r rows) e)
 
 module _ (most : ℕ) (columns : List ℕ) (k r : ℕ) where
   pub limits_by : (f : Family) → standing_by f most columns k r ≡ standing.Accepted → Limits most k r
@@ -58,7 +58,7 @@ module _ (most : ℕ) (columns : List ℕ) (k r : ℕ) where
   sound_by hsiao l e = accepted_sound most columns k r l (accepted_of_standing (judge_in most columns k r) e)
   sound_by (chosen rows) l e =
       subst (λ (n : ℕ). Sound (odd_in rows) (take (k + r) columns) n r) (same_bits k r)
-      (rows_sound most columns (k + r) r rows l (row-answers.accepted-of-standing (judge_rows_in most columns (k + r) r rows) e))
+      (rows_sound most columns (k + r) r rows l (row-answers.accepted_of_standing (judge_rows_in most columns (k + r) r rows) e))
 
   -- the first k columns are the code's own
   pub front_by : (f : Family) → length columns ≡ places_for f most → standing_by f most columns k r ≡ standing.Accepted

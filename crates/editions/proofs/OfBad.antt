@@ -9,7 +9,7 @@ use borrow.Author.Tests.{lt-ltb}
 use lib.Bits.{bit_xor}
 use lib.Dec.{ltb}
 use lib.ListN.{length, get_or}
-use Rattle.parity.proofs.Xor.{eq_of_xor-zero}
+use Rattle.parity.proofs.Xor.{eq_of_xor_zero}
 use Rattle.columns.specs.Mix.{column}
 use Rattle.columns.specs.Bits.{bit_at}
 use Rattle.columns.proofs.Errors.{column-nonzero, pair_nonzero, pair-no-column}
@@ -53,7 +53,7 @@ use Rattle.editions.proofs.OfWords as of_words
 
 -- what a reached word is answered by
 abbrev answer_to : Reached → Recovery
-answer_to x = recovering.recoveredBy x
+answer_to x = recovering.recovered_by x
 
 module _ (code : Given) (a : Accepted code) where
   abbrev rows : ℕ
@@ -94,7 +94,7 @@ module _ (code : Given) (a : Accepted code) where
       recover-reached =
           recover-is bad
           ∙ in_reach rows cs code.k (in_parts code.k w) bad whole right_is
-          ∙ ap (λ (x : ℕ). recovering.recoveredBy (first_of code.k (proper_words rows cs code.k x bad))) (number_of_parts code.k w)
+          ∙ ap (λ (x : ℕ). recovering.recovered_by (first_of code.k (proper_words rows cs code.k x bad))) (number_of_parts code.k w)
 
       -- the two ways to say that a word is near
       flips-are : (e : ℕ) → e ≤ 3 → cond (ltb e 2) 1 0 ≡ flips_beside e
@@ -218,7 +218,7 @@ three_columns code a =
       λ p q h l ne. pair_nonzero s.good p q (omega arith) (omega arith) ne,
       λ p q t h l m ne nf ng e.
           pair-no-column s.good s.parity p q t (omega arith) (omega arith) (omega arith)
-          (eq_of_xor-zero (bit_xor (column (matrix_of code) p) (column (matrix_of code) q)) (column (matrix_of code) t) e),
+          (eq_of_xor_zero (bit_xor (column (matrix_of code) p) (column (matrix_of code) q)) (column (matrix_of code) t) e),
     )
 
 -- a place that is not found in the list is no member of it

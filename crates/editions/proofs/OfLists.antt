@@ -125,7 +125,7 @@ explained_exactly code a w fits limit ps =
     let lt : SetOf (places_of code) limit ps → Unstrayed code (flip_all w ps) = λ s. flip_all-lt (places_of code) w 0 ps fits s.rising in
     let clean
     : Unstrayed code (flip_all w ps)
-    → (explaining.isClean (read_in rows (matrix_of code) code.k (in_parts code.k (flip_all w ps))) ≡ true)
+    → (explaining.is_clean (read_in rows (matrix_of code) code.k (in_parts code.k (flip_all w ps))) ≡ true)
     ↔ (mix (matrix_of code) (flip_all w ps) ≡ 0) =
     λ u. explained.clean_exactly rows (matrix_of code) code.k (flip_all w ps) k (rw n u) in (
       λ m.

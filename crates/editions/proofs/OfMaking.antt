@@ -75,9 +75,9 @@ made_exists e known k r limits room = record {
   };
 }
 
-pub made_accepted-code : (e : Edition) → Known e → promises.MadeAccepted e
+pub made_accepted_code : (e : Edition) → Known e → promises.MadeAccepted e
 unfolding made_exists
-made_accepted-code e known k r f =
+made_accepted_code e known k r f =
     let t = room_of e k r f in
     let c = made_exists e known k r t.0 t.1 in
     of_made e k r f (λ (code : HsiaoCode). promises.MadeFor code k r)

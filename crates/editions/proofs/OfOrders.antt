@@ -30,7 +30,7 @@ order_done code c runs s apart passes x =
     let n = narrow code c.number in (
       order.none-refused o code.edition.bytes t n runs s apart passes x,
       order.used-after o code.edition.bytes t n runs s apart passes x,
-      order.used-stay o code.edition.bytes t n runs s apart passes x,
+      order.used_stay o code.edition.bytes t n runs s apart passes x,
     )
 
 pub any_order : (code : Given) → promises.AnyOrder code
@@ -126,11 +126,11 @@ shared_record code handed first last between s bytes small tiny done again i in-
     let sound = sound_opened code handed in
     let wide = bytes_of_lem code s.image e bytes in
     let n = narrow code e in
-    let later = after_all code between (goal.stateAfter code first s) in
+    let later = after_all code between (goal.state_after code first s) in
     let v = verdict_same code e s.image i in
     let late = four_bytes last.stamp tiny in (
       λ clean.
-          let clean-here : LeftClean (outcome.verdictOf f (record_of code.edition s.image i)) = omega (arith, clean, v) in (
+          let clean-here : LeftClean (outcome.verdict_of f (record_of code.edition s.image i)) = omega (arith, clean, v) in (
             sym (verdict_same code e later.image i)
                 ∙ shared.mended_clean o d sound l h t first last between s wide done i in-first clean-here,
             shared.mended-not-entered o d sound l h t first last between s wide done i in-first n again late clean-here,
@@ -140,7 +140,7 @@ shared_record code handed first last between s bytes small tiny done again i in-
           let both =
           shared.unmended-again o d sound l h t first last between s wide done i in-first n again late
           (omega (arith, wrong, v)) (four_bytes first.stamp small) in-last in (
-            subst (λ x. Memᴰ x (entries_since d s (goal.stateAfter code first s))) (said first.stamp wrong) both.0,
-            subst (λ x. Memᴰ x (entries_since d later (goal.stateAfter code last later))) (said last.stamp wrong) both.1,
+            subst (λ x. Memᴰ x (entries_since d s (goal.state_after code first s))) (said first.stamp wrong) both.0,
+            subst (λ x. Memᴰ x (entries_since d later (goal.state_after code last later))) (said last.stamp wrong) both.1,
           ),
     )

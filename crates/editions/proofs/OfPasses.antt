@@ -99,17 +99,17 @@ askable_exactly e p s = (
 
 pub pass_empty : (code : Given) → promises.PassEmpty code
 pass_empty code a stamp s c q =
-    let e = facts.empty-run (opened code) code.edition.bytes a stamp s (standing-accepted code c.number) q in
+    let e = facts.empty_run (opened code) code.edition.bytes a stamp s (standing-accepted code c.number) q in
     (ap (λ (x : After). x.answer) e, ap (λ (x : After). x.image) e, ap (λ (x : After). x.journal) e)
 
 pub pass_outside : (code : Given) → promises.PassOutside code
 pass_outside code p s =
     let o = opened code in
     let l = facts.same_length o code.edition.bytes p s in (
-      facts.outside-before o code.edition.bytes p s,
-      facts.outside-after o code.edition.bytes p s,
+      facts.outside_before o code.edition.bytes p s,
+      facts.outside_after o code.edition.bytes p s,
       l.0,
-      facts.used-entries-stay o code.edition.bytes p s,
+      facts.used_entries_stay o code.edition.bytes p s,
       l.1,
     )
 
@@ -163,22 +163,22 @@ module _ (code : Given) (e : (judgement_of code).number ≡ 0) (image : List ℕ
   found = seen f rec
 
   abbrev told : ℕ
-  told = outcome.syndromeOf f rec
+  told = outcome.syndrome_of f rec
 
   pub read_same : read_at code image i ≡ reading_by found told (opened code).k word
-  unfolding seen outcome.syndromeOf
+  unfolding seen outcome.syndrome_of
   read_same = ap (λ s. reading_as s (opened code) word) (standing-accepted code e)
 
-  pub verdict_same : outcome.verdictOf f rec ≡ verdict_of code image i
-  unfolding outcome.verdictOf
+  pub verdict_same : outcome.verdict_of f rec ≡ verdict_of code image i
+  unfolding outcome.verdict_of
   verdict_same = verdict-read found told (opened code).k word ∙ ap (λ x. cond (eqb x.number 7) 5 x.verdict) (sym read_same)
 
-  pub finding_verdict : (finding_of found).verdict ≡ outcome.verdictOf f rec
-  unfolding outcome.verdictOf
+  pub finding_verdict : (finding_of found).verdict ≡ outcome.verdict_of f rec
+  unfolding outcome.verdict_of
   finding_verdict = refl
 
-  pub syndrome_same : outcome.syndromeOf f rec ≡ goal.syndromeFor code image i
-  unfolding outcome.syndromeOf seen
+  pub syndrome_same : outcome.syndrome_of f rec ≡ goal.syndrome_for code image i
+  unfolding outcome.syndrome_of seen
   syndrome_same =
       syndrome-read f.rows f.columns f.k word ∙ ap (λ (x : Reading). x.syndrome) (sym read_same)
 
@@ -186,13 +186,13 @@ module _ (code : Given) (e : (judgement_of code).number ≡ 0) (image : List ℕ
   place_same = place_read found told (opened code).k word ∙ ap (λ x. cond (eqb x.number 7) 255 x.place) (sym read_same)
 
   -- a mended record is that of the word that its reading hands back
-  pub mended_same : (outcome.verdictOf f rec ≡ 1) ⊎ (outcome.verdictOf f rec ≡ 2)
-      → outcome.recordOf code.edition.bytes (mended_by found (opened code).k word)
-      ≡ outcome.recordOf code.edition.bytes (read_at code image i).word
-  unfolding outcome.verdictOf
+  pub mended_same : (outcome.verdict_of f rec ≡ 1) ⊎ (outcome.verdict_of f rec ≡ 2)
+      → outcome.record_of code.edition.bytes (mended_by found (opened code).k word)
+      ≡ outcome.record_of code.edition.bytes (read_at code image i).word
+  unfolding outcome.verdict_of
   mended_same h =
-      sym (ap (λ (x : Reading). outcome.recordOf code.edition.bytes x.word) read_same
-      ∙ ap (outcome.recordOf code.edition.bytes) (word_read found told (opened code).k word h))
+      sym (ap (λ (x : Reading). outcome.record_of code.edition.bytes x.word) read_same
+      ∙ ap (outcome.record_of code.edition.bytes) (word_read found told (opened code).k word h))
 
 -- ---- what a done pass changes
 
@@ -204,7 +204,7 @@ pass_records code p s done i l u =
     let v = verdict_same code n s.image i in (
       λ h.
           let g = ⊎_elim (λ x. inl (v ∙ x)) (λ x. inr (v ∙ x)) h in
-          facts.mended-is o code.edition.bytes p s t done i l u g ∙ mended_same code n s.image i g,
+          facts.mended_is o code.edition.bytes p s t done i l u g ∙ mended_same code n s.image i g,
       λ x y. facts.unmended-stays o code.edition.bytes p s t done i l u (λ z. x (sym v ∙ z)) (λ z. y (sym v ∙ z)),
     )
 
@@ -228,9 +228,9 @@ pass_entries code p s done =
           ∙ (λ j. goal.entry_of p.stamp i ((finding_verdict code n s.image i ∙ v) j) (place j) (syndrome_same code n s.image i j)
           (record_of code.edition s.image i) left),
       λ m l.
-          let x = facts.entry-whose o code.edition.bytes p s t done m l in
+          let x = facts.entry_whose o code.edition.bytes p s t done m l in
           (x.0, x.1, x.2, λ z. x.3 (verdict_same code n s.image x.0 ∙ z), x.4),
-      facts.journal-stays o code.edition.bytes p s t done,
+      facts.journal_stays o code.edition.bytes p s t done,
     )
 
 -- ---- what it does is its list of entries
@@ -242,8 +242,8 @@ four_bytes n h = omega arith
 
 -- a syndrome has at most 16 digits
 pub narrow : (code : Given) → (judgement_of code).number ≡ 0 → (rec : List ℕ)
-    → outcome.syndromeOf (reader_of (opened code) code.edition.bytes) rec < byte_span syndrome_size
-unfolding outcome.syndromeOf byte_span
+    → outcome.syndrome_of (reader_of (opened code) code.edition.bytes) rec < byte_span syndrome_size
+unfolding outcome.syndrome_of byte_span
 narrow code e rec =
     let o = opened code in
     let limits = limits-kept code e in
@@ -260,9 +260,9 @@ pass_applied code p s small done =
     let o = opened code in
     let thin = narrow code (done_number code p s done) in
     let t = done_standing code p s done in
-    let used = facts.used-is o code.edition.bytes p s t done in
+    let used = facts.used_is o code.edition.bytes p s t done in
     let count : (answer_of code p s).used - s.used ≡ needed code s.image p.start p.end = omega (arith, used) in
-    applied.image-applied o p s code.edition.bytes t done thin
+    applied.image_applied o p s code.edition.bytes t done thin
     ∙ ap (λ (es : List Entry). applied_all code.edition.bytes es s.image)
     (sym (ap (λ (n : ℕ). entries_from code.edition.bytes (journal_after code p s) s.used n) count
     ∙ applied.new-read o p s code.edition.bytes t done thin (four_bytes p.stamp small)))
@@ -285,7 +285,7 @@ module _ (e : Edition) where
   pub same_after : (xs : List Turn) (s : State) → turns_after e xs s ≡ steps_after e.bytes (steps_of xs) s
   unfolding turns_after steps_after
   same_after [] s = refl
-  same_after (x ∷ xs) s = same_after xs (goal.stateAfter (code_in e x) x.pass s)
+  same_after (x ∷ xs) s = same_after xs (goal.state_after (code_in e x) x.pass s)
 
   all_known : (xs : List Turn) → AllStamped xs → stamps.AllSteps (steps_of xs)
   unfolding AllStamped stamps.AllSteps
@@ -294,13 +294,13 @@ module _ (e : Edition) where
 
 pub stamps_rise : (e : Edition) → promises.StampsRise e
 stamps_rise e turns s small none =
-    let r = stamps.steps-rising e.bytes (steps_of e turns) s (all_known e turns small) (stamps.empty-rising e.bytes s none) in
+    let r = stamps.steps_rising e.bytes (steps_of e turns) s (all_known e turns small) (stamps.empty_rising e.bytes s none) in
     let q : stamps.Rising e.bytes (turns_after e turns s) = rw (same_after e turns s) r in
     (q.counted, q.rises)
 
 -- the counts of a run, record by record
 counted : (code : Given) (e : (judgement_of code).number ≡ 0) (image : List ℕ) (v a n : ℕ)
-    → add_up (record_size code.edition.bytes) (one_if (outcome.verdictOf (reader_of (opened code) code.edition.bytes)) v)
+    → add_up (record_size code.edition.bytes) (one_if (outcome.verdict_of (reader_of (opened code) code.edition.bytes)) v)
     (from_record (record_size code.edition.bytes) a image) n
     ≡ count_from code image v a n
 unfolding add_up count_from one_if
@@ -308,7 +308,7 @@ counted code e image v a zero = refl
 counted code e image v a (suc n) =
     ap₂ (λ (x y : ℕ). x + y) (counted code e image v a n)
     (ap (λ (x : ℕ). cond (eqb x v) 1 0)
-    (ap (outcome.verdictOf (reader_of (opened code) code.edition.bytes)) (record_drop (record_size code.edition.bytes) image a n)
+    (ap (outcome.verdict_of (reader_of (opened code) code.edition.bytes)) (record_drop (record_size code.edition.bytes) image a n)
     ∙ verdict_same code e image (a + n)))
 
 pub pass_counts : (code : Given) → promises.PassCounts code
@@ -316,12 +316,12 @@ pass_counts code p s done =
     let o = opened code in
     let t = done_standing code p s done in
     let n = done_number code p s done in (
-      facts.tally-is o code.edition.bytes p s t done
+      facts.tally_is o code.edition.bytes p s t done
           ∙ tally_same (count_run (reader_of o code.edition.bytes) s.image p.start p.end)
           (λ v. count_from code s.image v p.start (p.end - p.start))
           (λ v. counted code n s.image v p.start (p.end - p.start)),
-      facts.six-add-up o code.edition.bytes p s t done,
-      facts.five-add-up o code.edition.bytes p s t done,
+      facts.six_add_up o code.edition.bytes p s t done,
+      facts.five_add_up o code.edition.bytes p s t done,
     )
 
 -- ---- two passes
@@ -334,7 +334,7 @@ pass_again code handed p s bytes done =
 pub pass_in-two : (code : Given) → promises.PassInTwo code
 pass_in-two code a b c stamp s =
     let o = opened code in (
-      λ up on d. twice.done-both o code.edition.bytes a b c stamp s (done_standing code (pass_over a c stamp) s d) d up on,
+      λ up on d. twice.done_both o code.edition.bytes a b c stamp s (done_standing code (pass_over a c stamp) s d) d up on,
       λ first second.
           let t = done_standing code (pass_over a b stamp) s first in (
             twice.both-answer o code.edition.bytes a b c stamp s t first second,

@@ -41,12 +41,12 @@ module _ (e : Edition) (s : State) (i : Image e.bytes s.image) (h : s.used ≤ r
 pub put_back_exactly : (e : Edition) → promises.PutBackExactly e
 put_back_exactly e s i h =
     let r = reaches e s i h in (
-      subst (λ (r : Returned). (r.answer ≡ exactly.allBack s.used) ⊎ ((m : ℕ) × (r.answer ≡ exactly.stoppedBehind m))) r
+      subst (λ (r : Returned). (r.answer ≡ exactly.all_back s.used) ⊎ ((m : ℕ) × (r.answer ≡ exactly.stopped_behind m))) r
           (exactly.one_of_two e.bytes s.journal s.used s.image),
-      subst (λ (r : Returned). (r.answer ≡ exactly.allBack s.used) ↔ LastMatch e s s.used) r
-          (exactly.done-exactly e.bytes s.journal s.used s.image),
-      λ m. subst (λ (r : Returned). (r.answer ≡ exactly.stoppedBehind m) ↔ StopsAt e s m) r
-          (exactly.stopped-exactly e.bytes s.journal s.used s.image m),
+      subst (λ (r : Returned). (r.answer ≡ exactly.all_back s.used) ↔ LastMatch e s s.used) r
+          (exactly.done_exactly e.bytes s.journal s.used s.image),
+      λ m. subst (λ (r : Returned). (r.answer ≡ exactly.stopped_behind m) ↔ StopsAt e s m) r
+          (exactly.stopped_exactly e.bytes s.journal s.used s.image m),
       subst (λ (r : Returned). r.image ≡ last_back e s r.answer.count) r
           (exactly.told_back e.bytes s.journal s.used s.image).0,
     )
@@ -58,9 +58,9 @@ put_back_others e s i h =
     let image : image_back e s ≡ last_back e s (answer_back e s).count = (put_back_exactly e s i h).3 in
     let few : (answer_back e s).count ≤ s.used = subst (λ (r : Returned). r.answer.count ≤ s.used) r told.1 in
     let all : LastMatch e s (answer_back e s).count = subst (λ (r : Returned). LastMatch e s r.answer.count) r told.2 in (
-      ap length image ∙ exactly.length-stays e.bytes s.journal s.used s.image h (answer_back e s).count few all,
+      ap length image ∙ exactly.length_stays e.bytes s.journal s.used s.image h (answer_back e s).count few all,
       λ n apart. ap (λ l. record_at (record_size e.bytes) l n) image
-          ∙ exactly.unnamed-stay e.bytes s.journal s.used s.image h (answer_back e s).count few all n apart,
+          ∙ exactly.unnamed_stay e.bytes s.journal s.used s.image h (answer_back e s).count few all n apart,
     )
 
 -- ---- histories

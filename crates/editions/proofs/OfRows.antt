@@ -167,8 +167,8 @@ module _ (code : ChosenCode) (handed : Handed (chosen_of code)) where
         empty = λ i h u. s.8 i h (omega (arith, handed.places));
       }
 
-pub accepted-rows_exactly : (code : ChosenCode) → promises.AcceptedRowsExactly code
-accepted-rows_exactly code handed = (
+pub accepted_rows_exactly : (code : ChosenCode) → promises.AcceptedRowsExactly code
+accepted_rows_exactly code handed = (
   λ e. kept-says code handed ((rule code handed).0 ((number_is code).0 e)),
   λ s. (number_is code).1 ((rule code handed).1 (says-kept code handed s)),
 )

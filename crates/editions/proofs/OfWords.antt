@@ -34,7 +34,7 @@ use Rattle.writing.proofs.Exactly.{stray_unwritten}
 use Rattle.mending.proofs.Parts.{word_fits, parts_of_number}
 use Rattle.mending.proofs.Strays.{stray_of}
 use Rattle.mending.proofs.Reading.{one-flip-data, one-flip-check, two-flips-even, data_mends, check_mends, even_unmended, odd_unmended}
-use Rattle.mending.proofs.Writing.{data_mix-fits, mix_parts, written-fits, written_clean, written-only}
+use Rattle.mending.proofs.Writing.{data_mix_fits, mix_parts, written-fits, written_clean, written-only}
 use Rattle.word.specs.declared.Word.{Word}
 use Rattle.reading.specs.declared.Reading.{Reading}
 use Rattle.editions.specs.Given.{Given, HsiaoCode, given, opened, set_of, matrix_of, data_columns, places_of, judgement_of, written_of, read_of, Accepted}
@@ -89,7 +89,7 @@ module _ (code : HsiaoCode) (a : Accepted (given code)) where
       let c = checks_of (matrix_of any) code.k low in
       sym (mix_identity code.r c (written-fits s low))
       ∙ ap (λ (cs : List ℕ). mix cs c) (sym (check_part code a))
-      ∙ (s.writes.solved (mix (take code.k (matrix_of any)) low) (data_mix-fits s low)).0
+      ∙ (s.writes.solved (mix (take code.k (matrix_of any)) low) (data_mix_fits s low)).0
       ∙ ap (λ (cs : List ℕ). mix cs low) (data_part any a)
 
   pub written-mix : (low : ℕ) → low < 2 ^ code.k → (written_of any low).check ≡ mix (data_columns any) low
@@ -297,22 +297,22 @@ module _ (code : Given) (a : Accepted code) (w : ℕ) (fits : Unstrayed code w) 
       subst (λ (q : ℕ). (q < places_of code) × HandsBack code (read code w) (flipped w q) × words.Clean code (flipped w q)) (sym e)
       (h, back, (clean-zero code a (flipped w p) (flip_lt (places_of code) w p fits h)).1 z)
 
-  by-verdict_mended : (v : Verdict) → verdict_at code a w ≡ v → ((finding_of v).verdict ≡ 1) ⊎ ((finding_of v).verdict ≡ 2)
+  by_verdict_mended : (v : Verdict) → verdict_at code a w ≡ v → ((finding_of v).verdict ≡ 1) ⊎ ((finding_of v).verdict ≡ 2)
       → ((read code w).place < places_of code)
       × HandsBack code (read code w) (flipped w (read code w).place)
       × words.Clean code (flipped w (read code w).place)
-  by-verdict_mended Clean e h = absurd (⊎_elim (λ (x : ◌≡◌ {A = ℕ} 0 1). omega arith) (λ (x : ◌≡◌ {A = ℕ} 0 2). omega arith) h)
-  by-verdict_mended (Data p) e h =
+  by_verdict_mended Clean e h = absurd (⊎_elim (λ (x : ◌≡◌ {A = ℕ} 0 1). omega arith) (λ (x : ◌≡◌ {A = ℕ} 0 2). omega arith) h)
+  by_verdict_mended (Data p) e h =
       let m = data_mends (set_of code) (sound_of code a) w p e in
       let x = answered-as code a w fits (Data p) e in
       mended_at p (omega (arith, m.0)) m.1 x.hands x.place
-  by-verdict_mended (Check p) e h =
+  by_verdict_mended (Check p) e h =
       let m = check_mends (set_of code) (sound_of code a) w p e in
       let x = answered-as code a w fits (Check p) e in
       mended_at p (omega (arith, m.1, places-length code a)) m.2 x.hands x.place
-  by-verdict_mended Even e h = absurd (⊎_elim (λ (x : ◌≡◌ {A = ℕ} 3 1). omega arith) (λ (x : ◌≡◌ {A = ℕ} 3 2). omega arith) h)
-  by-verdict_mended Odd e h = absurd (⊎_elim (λ (x : ◌≡◌ {A = ℕ} 4 1). omega arith) (λ (x : ◌≡◌ {A = ℕ} 4 2). omega arith) h)
-  by-verdict_mended Stray e h = absurd (⊎_elim (λ (x : ◌≡◌ {A = ℕ} 5 1). omega arith) (λ (x : ◌≡◌ {A = ℕ} 5 2). omega arith) h)
+  by_verdict_mended Even e h = absurd (⊎_elim (λ (x : ◌≡◌ {A = ℕ} 3 1). omega arith) (λ (x : ◌≡◌ {A = ℕ} 3 2). omega arith) h)
+  by_verdict_mended Odd e h = absurd (⊎_elim (λ (x : ◌≡◌ {A = ℕ} 4 1). omega arith) (λ (x : ◌≡◌ {A = ℕ} 4 2). omega arith) h)
+  by_verdict_mended Stray e h = absurd (⊎_elim (λ (x : ◌≡◌ {A = ℕ} 5 1). omega arith) (λ (x : ◌≡◌ {A = ℕ} 5 2). omega arith) h)
 
   unmended : ((p : ℕ) → p < length (matrix_of code) → mix (matrix_of code) (flipped w p) ≢ 0)
       → (p : ℕ) → p < places_of code → ¬ (words.Clean code (flipped w p))
@@ -335,7 +335,7 @@ module _ (code : Given) (a : Accepted code) (w : ℕ) (fits : Unstrayed code w) 
 pub mended_clean : (code : Given) → promises.MendedClean code
 mended_clean code a w fits h =
     let v = (answered code a w fits).verdict in
-    by-verdict_mended code a w fits (verdict_at code a w) refl (⊎_elim (λ e. inl (sym v ∙ e)) (λ e. inr (sym v ∙ e)) h)
+    by_verdict_mended code a w fits (verdict_at code a w) refl (⊎_elim (λ e. inl (sym v ∙ e)) (λ e. inr (sym v ∙ e)) h)
 
 pub left-as_read : (code : Given) → promises.LeftAsRead code
 left-as_read code a w fits h =

@@ -412,7 +412,7 @@ as_it_was code image i stamp =
 -- ---- the put-back (02's request 104)
 
 abbrev pub put_back_of : Edition → List ℕ → List ℕ → ℕ → Returned
-put_back_of e image journal used = backwards.putBackOf e.bytes image journal used
+put_back_of e image journal used = backwards.put_back_of e.bytes image journal used
 
 -- of what passes left: its answer, and the image afterwards
 abbrev pub answer_back : Edition → State → PutBack
@@ -427,10 +427,10 @@ back_with number count = record { number = number; told = 0; count = count }
 
 -- the entries in use, counted from the last; the image once the last m are put back; that each of them matched; that the next does not
 abbrev pub from_last : Edition → State → ℕ → Entry
-from_last e s m = history.fromLast e.bytes s.journal s.used m
+from_last e s m = history.from_last e.bytes s.journal s.used m
 
 abbrev pub last_back : Edition → State → ℕ → List ℕ
-last_back e s m = history.lastBack e.bytes s.journal s.used m s.image
+last_back e s m = history.last_back e.bytes s.journal s.used m s.image
 
 abbrev pub LastMatch : Edition → State → ℕ → Type 0
 LastMatch e s m = history.LastMatch e.bytes s.journal s.used m s.image

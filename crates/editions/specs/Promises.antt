@@ -502,7 +502,7 @@ PassRecords code =
     → (i : ℕ) → p.start ≤ i → i < p.end
     → let v = verdict_of code s.image i in
     let e = code.edition in
-    ((v ≡ 1) ⊎ (v ≡ 2) → record_of e (image_after code p s) i ≡ outcome.recordOf e.bytes (read_at code s.image i).word)
+    ((v ≡ 1) ⊎ (v ≡ 2) → record_of e (image_after code p s) i ≡ outcome.record_of e.bytes (read_at code s.image i).word)
     × (v ≢ 1 → v ≢ 2 → record_of e (image_after code p s) i ≡ record_of e s.image i)
 
 -- Each record of the run with a verdict 1 to 5 has its entry, right behind those in use and those of the run's records before it: the

@@ -38,7 +38,7 @@ fn put_record(part: &mut [u8], rec: &[u8], d: usize)
 }
 
 // The bits that a verdict turns, all of one byte.
-#[derive(Drop)]
+#[derive(Clone, Copy)]
 struct Turn {
     at: usize,
     bits: u8,

@@ -6,7 +6,7 @@ ghost use Rattle.entry_back.specs.Entry.{same_bytes, matches, undone, step_of, s
 use record::{CHECK, HEAD, STAMP, VERDICT};
 
 // A step backwards through a journal: the place that it leads to, or that it stopped, since the entry does not match.
-#[derive(Drop)]
+#[derive(Clone, Copy)]
 pub enum Step {
     Back(usize),
     Stop,

@@ -10,7 +10,7 @@ use lib.Bits.{bit_xor}
 use lib.Dec.{eqb, ltb}
 use lib.ListN.{length}
 use Rattle.parity.specs.Odd.{Parity}
-use Rattle.parity.proofs.Xor.{eq_of_xor-zero, xor-zero_of_eq}
+use Rattle.parity.proofs.Xor.{eq_of_xor_zero, xor_zero_of_eq}
 use Rattle.columns.specs.Mix.{mix, column, flipped, place_in}
 use Rattle.columns.specs.Rule.{Good, Pair}
 use Rattle.columns.proofs.Linear.{mix_flip}
@@ -79,14 +79,14 @@ module _ {odd : ℕ → ℕ} {cs : List ℕ} (g : Good odd cs) where
           ≡ one_from cs (mix cs w) p
       go true f ih =
           let gone = sym (mix_flip cs w p inside) ∙ eqb-true (mix cs (flipped w p)) 0 f in
-          let hit : column cs p ≡ mix cs w = sym (eq_of_xor-zero (mix cs w) (column cs p) gone) in
+          let hit : column cs p ≡ mix cs w = sym (eq_of_xor_zero (mix cs w) (column cs p) gone) in
           ap (λ (l : List (List ℕ)). (p ∷ []) ∷ l)
           (ih ∙ one_none cs (mix cs w) (suc p) (λ q l k a. let same : p ≡ q = g.apart p q inside k (hit ∙ sym a) in omega arith))
           ∙ sym (one_here cs (mix cs w) p inside hit)
       go false f ih =
           ih
           ∙ sym (one_next cs (mix cs w) p inside
-          (λ a. eqb-false (mix cs (flipped w p)) 0 f (mix_flip cs w p inside ∙ xor-zero_of_eq (mix cs w) (column cs p) (sym a))))
+          (λ a. eqb-false (mix cs (flipped w p)) 0 f (mix_flip cs w p inside ∙ xor_zero_of_eq (mix cs w) (column cs p) (sym a))))
 
   -- the pairs whose lower place is p or higher
   pairs_from_lem : (w m p : ℕ) → p + m ≡ length cs → those (clears cs w) (chosen 2 m p) ≡ pairs_from cs (mix cs w) m p

@@ -8,7 +8,7 @@ use word::Word;
 
 // The answer: the list's length where it is done; the list itself stands in the lent bytes.
 #[repr(C)]
-#[derive(Drop)]
+#[derive(Clone, Copy)]
 pub struct Listing {
     pub number: usize,
     pub told: usize,

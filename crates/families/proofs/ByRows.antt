@@ -9,7 +9,7 @@ use lib.Bits.{bit_xor, xor_mod, xor_shr}
 use lib.ListN.{length}
 use lib.Pow.{pow_pos, pow-lt, mod-pow-add, shr-shr}
 use Rattle.parity.proofs.Ones.{below_or_not}
-use Rattle.parity.proofs.Xor.{eq_of_xor-zero, xor-zero_of_eq}
+use Rattle.parity.proofs.Xor.{eq_of_xor_zero, xor_zero_of_eq}
 use Rattle.columns.specs.Mix.{column}
 use Rattle.columns.specs.Bits.{bit_at}
 use Rattle.row_judge.specs.Rule.{Lower, Upper, Triangular}
@@ -46,10 +46,10 @@ diagonal_low p = mod-eq_of_lt (pow-lt {i = p} {j = suc p} (omega arith))
 
 low_of : (c p : ℕ) → bit_xor c (2 ^ p) % 2 ^ suc p ≡ 0 → c % 2 ^ suc p ≡ 2 ^ p
 low_of c p h =
-    eq_of_xor-zero (c % 2 ^ suc p) (2 ^ p) (ap (bit_xor (c % 2 ^ suc p)) (sym (diagonal_low p)) ∙ sym (xor_mod c (2 ^ p) (suc p)) ∙ h)
+    eq_of_xor_zero (c % 2 ^ suc p) (2 ^ p) (ap (bit_xor (c % 2 ^ suc p)) (sym (diagonal_low p)) ∙ sym (xor_mod c (2 ^ p) (suc p)) ∙ h)
 
 low-is : (c p : ℕ) → c % 2 ^ suc p ≡ 2 ^ p → bit_xor c (2 ^ p) % 2 ^ suc p ≡ 0
-low-is c p h = xor_mod c (2 ^ p) (suc p) ∙ xor-zero_of_eq (c % 2 ^ suc p) (2 ^ p % 2 ^ suc p) (h ∙ sym (diagonal_low p))
+low-is c p h = xor_mod c (2 ^ p) (suc p) ∙ xor_zero_of_eq (c % 2 ^ suc p) (2 ^ p % 2 ^ suc p) (h ∙ sym (diagonal_low p))
 
 -- digit p is 1, and the digits below are 0
 low_rows : (c p : ℕ) → c % 2 ^ suc p ≡ 2 ^ p → (bit_at c p ≡ 1) × (c % 2 ^ p ≡ 0)
@@ -74,12 +74,12 @@ one_there p = div_self (pow_pos p)
 
 high_of : (c p : ℕ) → bit_xor c (2 ^ p) < 2 ^ p → c / 2 ^ p ≡ 1
 high_of c p h =
-    eq_of_xor-zero (c / 2 ^ p) 1
+    eq_of_xor_zero (c / 2 ^ p) 1
     (ap (bit_xor (c / 2 ^ p)) (sym (one_there p)) ∙ sym (xor_shr c (2 ^ p) p) ∙ div-eq_of_lt h)
 
 high_is : (c p : ℕ) → c / 2 ^ p ≡ 1 → bit_xor c (2 ^ p) < 2 ^ p
 high_is c p h =
-    let z : bit_xor c (2 ^ p) / 2 ^ p ≡ 0 = xor_shr c (2 ^ p) p ∙ xor-zero_of_eq (c / 2 ^ p) (2 ^ p / 2 ^ p) (h ∙ sym (one_there p)) in
+    let z : bit_xor c (2 ^ p) / 2 ^ p ≡ 0 = xor_shr c (2 ^ p) p ∙ xor_zero_of_eq (c / 2 ^ p) (2 ^ p / 2 ^ p) (h ∙ sym (one_there p)) in
     omega (arith, div-add-mod' (bit_xor c (2 ^ p)) (2 ^ p), ap (λ (x : ℕ). x * 2 ^ p) z, mod-lt (bit_xor c (2 ^ p)) (pow_pos p))
 
 -- digit j past p is digit j - p - 1 of what stands past p

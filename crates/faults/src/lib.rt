@@ -7,7 +7,7 @@ ghost use Rattle.faults.specs.Faults.{fault_at, first_past, some_in, InReach};
 
 // What may be wrong at a place: 2^r or more; zero or equal to an earlier one; as a check column, a fault on the diagonal or before it, or
 // on it or after it; even within the set of rows; not 0.
-#[derive(Drop)]
+#[derive(Clone, Copy)]
 pub enum Fault {
     Wide(usize),
     Again,

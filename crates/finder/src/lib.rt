@@ -51,7 +51,7 @@ fn xored(a: Word, b: Word) -> Word
 
 // The answer: the bad places as ones, none where it is refused.
 #[repr(C)]
-#[derive(Drop)]
+#[derive(Clone, Copy)]
 pub struct Found {
     pub number: usize,
     pub told: usize,

@@ -3,7 +3,7 @@ ghost use Rattle.std.specs.Prelude.{◌≡◌, ◌≤◌, ◌<◌, length};
 ghost use Rattle.judge.specs.Judge.{judge_column, judge_columns, judge_rest, judge_in};
 
 // What the judge says of a code of Hsiao's family, a case for each refusal 1 to 6 and 21, with the bad place.
-#[derive(Drop)]
+#[derive(Clone, Copy)]
 pub enum Judged {
     Accepted,
     NoData,

@@ -44,7 +44,7 @@ fn make_in(places: &mut [u16], k: usize, r: usize) -> usize
 
 // What the maker answers: 0 and the code, or the refusal's number and a code of nothing but zeros.
 #[repr(C)]
-#[derive(Drop)]
+#[derive(Clone, Copy)]
 pub struct Made {
     pub number: usize,
     pub code: Code,
@@ -70,7 +70,7 @@ pub fn make(k: usize, r: usize) -> Made
 
 // The same in the wide edition.
 #[repr(C)]
-#[derive(Drop)]
+#[derive(Clone, Copy)]
 pub struct WideMade {
     pub number: usize,
     pub code: WideCode,

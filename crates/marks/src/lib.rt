@@ -49,7 +49,7 @@ fn mark(s: u16, word: Word, strays: Word) -> u64
 }
 
 // What is seen of the record x: its mark, and what the list says of it.
-#[derive(Drop)]
+#[derive(Clone, Copy)]
 struct Seen {
     mark: u64,
     said: u32,

@@ -178,7 +178,7 @@ totals_within image b h =
 module _ (image : List ℕ) (b c : ℕ) (h : b ≤ c) (g : c ≤ records_in data_size image) where
   rest_stays : from_record (record_size data_size) b (run_left image 0 b) ≡ from_record (record_size data_size) b image
   unfolding run_left
-  rest_stays = runs.after-stays (record_size data_size) left left_each image 0 b (omega arith) (fits image b (omega arith))
+  rest_stays = runs.after_stays (record_size data_size) left left_each image 0 b (omega arith) (fits image b (omega arith))
 
   pub left_next : run_left (run_left image 0 b) b c ≡ run_left image 0 c
   unfolding run_left

@@ -7,7 +7,7 @@ use Prim.Native.Nat.{ℕ, ◌^◌, ◌≤◌, ◌<◌}
 use native.Mathlib.Omega.{arith}
 use lib.ListN.{length}
 use Rattle.parity.specs.Odd.{odd_in}
-use Rattle.parity.proofs.Xor.{eq_of_xor-zero, xor-zero_of_eq}
+use Rattle.parity.proofs.Xor.{eq_of_xor_zero, xor_zero_of_eq}
 use Rattle.columns.specs.Mix.{column, mix, flipped}
 use Rattle.columns.specs.Sound.{Sound}
 use Rattle.columns.proofs.Linear.{mix_flip}
@@ -59,8 +59,8 @@ module _ (rows : ℕ) {cs : List ℕ} {k r : ℕ} (sound : Sound (odd_in rows) c
   -- a flip makes the syndrome 0 exactly where its column is the syndrome
   pub mends_exactly : (w p : ℕ) → p < length cs → (mix cs (flipped w p) ≡ 0) ↔ (column cs p ≡ mix cs w)
   mends_exactly w p h = (
-    λ z. sym (eq_of_xor-zero (mix cs w) (column cs p) (sym (mix_flip cs w p h) ∙ z)),
-    λ e. mix_flip cs w p h ∙ xor-zero_of_eq (mix cs w) (column cs p) (sym e),
+    λ z. sym (eq_of_xor_zero (mix cs w) (column cs p) (sym (mix_flip cs w p h) ∙ z)),
+    λ e. mix_flip cs w p h ∙ xor_zero_of_eq (mix cs w) (column cs p) (sym e),
   )
 
   -- ---- from a word of syndrome 0

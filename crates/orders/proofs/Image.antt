@@ -21,7 +21,7 @@ use Rattle.asked.specs.Asked.{Image, Run}
 use Rattle.passes.proofs.Alike.{same_image, same_run}
 use Rattle.orders.specs.Lists.{Each, EachTwo, Rearranged, none, keep, swap, next}
 use Rattle.orders.specs.Orders.{Ends, InRun, Apart}
-use Rattle.orders.proofs.Lists.{each_map, each_any_order, two-any_order}
+use Rattle.orders.proofs.Lists.{each_map, each_any_order, two_any_order}
 
 -- ---- records
 
@@ -83,18 +83,18 @@ module _ (f : Reader) where
     fits = whole-fits size (length image) r.end within.within
 
     pub length-leftBy : length (left_by r image) ≡ length image
-    length-leftBy = runs.length-overRun size (λ i. left_of f) (λ i. length-left_of f) image r.start r.end within.rising fits
+    length-leftBy = runs.length-over_run size (λ i. left_of f) (λ i. length-left_of f) image r.start r.end within.rising fits
 
     inside : (i : ℕ) → InRun r i → record_at size (left_by r image) i ≡ left_of f (record_at size image i)
     inside i u =
         let below : i < r.end = omega (arith, u.1) in
-        runs.record-within size (λ i. left_of f) (λ i. length-left_of f) image r.start r.end within.rising fits i u.0 below
+        runs.record_within size (λ i. left_of f) (λ i. length-left_of f) image r.start r.end within.rising fits i u.0 below
 
     outside : (i : ℕ) → (i < r.start) ⊎ (r.end ≤ i) → record_at size (left_by r image) i ≡ record_at size image i
     outside =
         outside_same size image (left_by r image) r.start r.end
-        (runs.before-stays size (λ i. left_of f) (λ i. length-left_of f) image r.start r.end within.rising fits)
-        (runs.after-stays size (λ i. left_of f) (λ i. length-left_of f) image r.start r.end within.rising fits)
+        (runs.before_stays size (λ i. left_of f) (λ i. length-left_of f) image r.start r.end within.rising fits)
+        (runs.after_stays size (λ i. left_of f) (λ i. length-left_of f) image r.start r.end within.rising fits)
 
     -- a run that was within the image is within what is left
     pub within-left : (t : Ends) → Within image t → Within (left_by r image) t
@@ -148,15 +148,15 @@ module _ (f : Reader) where
   left_by_all (r ∷ rs) image = left_by_all rs (left_by r image)
 
   -- RUNS APART, IN ANY ORDER, leave the same image
-  pub left-any_order : {rs ts : List Ends} → Rearranged rs ts → (image : List ℕ) → Image f.d image → Each (Within image) rs
+  pub left_any_order : {rs ts : List Ends} → Rearranged rs ts → (image : List ℕ) → Image f.d image → Each (Within image) rs
       → EachTwo Apart rs → left_by_all rs image ≡ left_by_all ts image
   unfolding left_by_all Each EachTwo
-  left-any_order none image i w a = refl
-  left-any_order (keep {x = r} {l = rs} h) image i w a =
-      left-any_order h (left_by r image) (image-left image r w.0 i)
+  left_any_order none image i w a = refl
+  left_any_order (keep {x = r} {l = rs} h) image i w a =
+      left_any_order h (left_by r image) (image-left image r w.0 i)
       (each_map (Within image) (Within (left_by r image)) (within-left image r w.0) rs w.1) a.1
-  left-any_order (swap {x = r} {y = t} {l = rs}) image i w a =
+  left_any_order (swap {x = r} {y = t} {l = rs}) image i w a =
       ap (left_by_all rs) (two-swapped image i r t w.0 w.1.0 a.0.0)
-  left-any_order (next h k) image i w a =
-      left-any_order h image i w a
-      ∙ left-any_order k image i (each_any_order (Within image) h w) (two-any_order Apart (λ r t c j u v. c j v u) h a)
+  left_any_order (next h k) image i w a =
+      left_any_order h image i w a
+      ∙ left_any_order k image i (each_any_order (Within image) h w) (two_any_order Apart (λ r t c j u v. c j v u) h a)

@@ -30,12 +30,12 @@ module _ {X : Type 0} where
   each_any_order P (next h k) a = each_any_order P k (each_any_order P h a)
 
   -- for a relation that goes both ways
-  pub two-any_order : (R : X → X → Type 0) → ((x y : X) → R x y → R y x) → {l m : List X} → Rearranged l m → EachTwo R l → EachTwo R m
+  pub two_any_order : (R : X → X → Type 0) → ((x y : X) → R x y → R y x) → {l m : List X} → Rearranged l m → EachTwo R l → EachTwo R m
   unfolding EachTwo Each
-  two-any_order R f none a = a
-  two-any_order R f (keep {x = x} h) a = (each_any_order (R x) h a.0, two-any_order R f h a.1)
-  two-any_order R f (swap {x = x} {y = y}) a = ((f x y a.0.0, a.1.0), (a.0.1, a.1.1))
-  two-any_order R f (next h k) a = two-any_order R f k (two-any_order R f h a)
+  two_any_order R f none a = a
+  two_any_order R f (keep {x = x} h) a = (each_any_order (R x) h a.0, two_any_order R f h a.1)
+  two_any_order R f (swap {x = x} {y = y}) a = ((f x y a.0.0, a.1.0), (a.0.1, a.1.1))
+  two_any_order R f (next h k) a = two_any_order R f k (two_any_order R f h a)
 
   front_kept : (a : List X) {l m : List X} → Rearranged l m → Rearranged (a ++ l) (a ++ m)
   front_kept [] h = h
@@ -56,15 +56,15 @@ joined_by g [] = []
 joined_by g (x ∷ l) = g x ++ joined_by g l
 
 module _ {X Y : Type 0} where
-  pub joined-any_order : (g : X → List Y) {l m : List X} → Rearranged l m → Rearranged (joined_by g l) (joined_by g m)
+  pub joined_any_order : (g : X → List Y) {l m : List X} → Rearranged l m → Rearranged (joined_by g l) (joined_by g m)
   unfolding joined_by
-  joined-any_order g none = none
-  joined-any_order g (keep {x = x} h) = front_kept (g x) (joined-any_order g h)
-  joined-any_order g (swap {x = x} {y = y} {l = l}) = fronts_swapped (g x) (g y) (joined_by g l)
-  joined-any_order g (next h k) = next (joined-any_order g h) (joined-any_order g k)
+  joined_any_order g none = none
+  joined_any_order g (keep {x = x} h) = front_kept (g x) (joined_any_order g h)
+  joined_any_order g (swap {x = x} {y = y} {l = l}) = fronts_swapped (g x) (g y) (joined_by g l)
+  joined_any_order g (next h k) = next (joined_any_order g h) (joined_any_order g k)
 
-  pub map-any_order : (g : X → Y) {l m : List X} → Rearranged l m → Rearranged (map g l) (map g m)
-  map-any_order g none = none
-  map-any_order g (keep h) = keep (map-any_order g h)
-  map-any_order g swap = swap
-  map-any_order g (next h k) = next (map-any_order g h) (map-any_order g k)
+  pub map_any_order : (g : X → Y) {l m : List X} → Rearranged l m → Rearranged (map g l) (map g m)
+  map_any_order g none = none
+  map_any_order g (keep h) = keep (map_any_order g h)
+  map_any_order g swap = swap
+  map_any_order g (next h k) = next (map_any_order g h) (map_any_order g k)

@@ -16,26 +16,26 @@ use Rattle.pass.specs.Pass.{After, noted_run, reader_of, after_pass}
 use Rattle.asked.specs.Asked.{Run}
 use Rattle.orders.specs.Lists.{Rearranged, none, keep, swap, next}
 use Rattle.orders.specs.Orders.{Ends, ends_of, Apart, needed_by_all, Separate, OrderOf, passes_after, AllDone, tallies_given, entries_since, unstamped, SameEntries}
-use Rattle.orders.proofs.Lists.{order_back, each_any_order, two-any_order, joined_by, joined-any_order, map-any_order}
-use Rattle.orders.proofs.Image.{left-any_order}
+use Rattle.orders.proofs.Lists.{order_back, each_any_order, two_any_order, joined_by, joined_any_order, map_any_order}
+use Rattle.orders.proofs.Image.{left_any_order}
 use Rattle.orders.proofs.Journal.{noted-unstamped}
 use Rattle.orders.proofs.Steps as steps
 
 -- all the runs need as many entries in any order
-needed-any_order : (f : Reader) (image : List ℕ) {rs ts : List Ends} → Rearranged rs ts → needed_by_all f image rs ≡ needed_by_all f image ts
+needed_any_order : (f : Reader) (image : List ℕ) {rs ts : List Ends} → Rearranged rs ts → needed_by_all f image rs ≡ needed_by_all f image ts
 unfolding needed_by_all
-needed-any_order f image none = refl
-needed-any_order f image (keep h) = omega (arith, needed-any_order f image h)
-needed-any_order f image swap = omega arith
-needed-any_order f image (next h k) = needed-any_order f image h ∙ needed-any_order f image k
+needed_any_order f image none = refl
+needed_any_order f image (keep h) = omega (arith, needed_any_order f image h)
+needed_any_order f image swap = omega arith
+needed_any_order f image (next h k) = needed_any_order f image h ∙ needed_any_order f image k
 
 separate_any_order : (f : Reader) {rs ts : List Ends} (s : State) → Rearranged rs ts → Separate f rs s → Separate f ts s
 separate_any_order f s h x =
     record {
       records = x.records;
       within = each_any_order (λ r. Run f.d s.image r.start r.end) h x.within;
-      apart = two-any_order Apart (λ r t c i u v. c i v u) h x.apart;
-      room = omega (arith, needed-any_order f s.image h, x.room);
+      apart = two_any_order Apart (λ r t c i u v. c i v u) h x.apart;
+      room = omega (arith, needed_any_order f s.image h, x.room);
     }
 
 -- what passes enter, stamps set aside, is what their runs need entered
@@ -74,18 +74,18 @@ module _ (o : Opened) (d : ℕ) (taken : o.standing ≡ standing.Accepted)
     -- the count in use, and the entries that were in use
     pub used-after : last.used ≡ s.used + needed_by_all f s.image runs
     used-after =
-        steps.used-is o d taken ps s (ready ps x)
-        ∙ ap (λ n. s.used + n) (sym (needed-any_order f s.image x.rearranged))
+        steps.used_is o d taken ps s (ready ps x)
+        ∙ ap (λ n. s.used + n) (sym (needed_any_order f s.image x.rearranged))
 
     pub used_stay : take (s.used * entry_size d) last.journal ≡ take (s.used * entry_size d) s.journal
-    used_stay = steps.used-kept o d taken ps s (ready ps x)
+    used_stay = steps.used_kept o d taken ps s (ready ps x)
 
     entries_are : map unstamped (entries_since d s last) ≡ joined_by (λ r. noted_run f 0 s.image r.start r.end) (map ends_of ps)
     entries_are =
         let count : last.used - s.used ≡ needed_by_all f s.image (map ends_of ps) =
-        omega (arith, steps.used-is o d taken ps s (ready ps x)) in
+        omega (arith, steps.used_is o d taken ps s (ready ps x)) in
         ap (λ n. map unstamped (entries_from d last.journal s.used n)) count
-        ∙ ap (map unstamped) (steps.entries-are o d taken narrow ps s (ready ps x))
+        ∙ ap (map unstamped) (steps.entries_are o d taken narrow ps s (ready ps x))
         ∙ entered-unstamped f s.image ps
 
   -- ---- two orders
@@ -97,15 +97,15 @@ module _ (o : Opened) (d : ℕ) (taken : o.standing ≡ standing.Accepted)
     pub same_image : (passes_after now ps s).image ≡ (passes_after now qs s).image
     same_image =
         let there = (ready ps x).separate in
-        steps.image-is o d taken ps s (ready ps x)
-        ∙ left-any_order f either s.image there.records there.within there.apart
-        ∙ sym (steps.image-is o d taken qs s (ready qs y))
+        steps.image_is o d taken ps s (ready ps x)
+        ∙ left_any_order f either s.image there.records there.within there.apart
+        ∙ sym (steps.image_is o d taken qs s (ready qs y))
 
     pub same_entries : SameEntries (entries_since d s (passes_after now ps s)) (entries_since d s (passes_after now qs s))
     same_entries =
-        rw (entries_are ps x, entries_are qs y) (joined-any_order (λ r. noted_run f 0 s.image r.start r.end) either)
+        rw (entries_are ps x, entries_are qs y) (joined_any_order (λ r. noted_run f 0 s.image r.start r.end) either)
 
     pub same-tallies : Rearranged (tallies_given now ps s) (tallies_given now qs s)
     same-tallies =
-        rw (steps.tallies-are o d taken ps s (ready ps x), steps.tallies-are o d taken qs s (ready qs y))
-        (map-any_order (steps.tallyFor o d taken s.image) either)
+        rw (steps.tallies_are o d taken ps s (ready ps x), steps.tallies_are o d taken qs s (ready qs y))
+        (map_any_order (steps.tally_for o d taken s.image) either)

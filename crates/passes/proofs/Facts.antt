@@ -13,7 +13,7 @@ use Rattle.record.specs.Tally.{zero_tally}
 use Rattle.record.specs.Journal.{unclean}
 use Rattle.runs.proofs.Run.{record_drop}
 use Rattle.runs.proofs.Tallies as tallies
-use Rattle.runs.proofs.Journal.{length-entries, count_entries, needed-or_clean}
+use Rattle.runs.proofs.Journal.{length-entries, count_entries, needed_or_clean}
 use Rattle.runs.proofs.Image as runs
 use Rattle.code.specs.declared.Opened.{Opened}
 use Rattle.code.specs.declared.Standing.TheVariants as standing
@@ -97,11 +97,11 @@ module _ (f : Reader) (image : List ℕ) (a b : ℕ) (up : a ≤ b) (fits : b * 
   -- each of the run's records has one of the six verdicts, and one of the five that are no 0 where it needs an entry
   pub six_counts : count_run f image a b 0 + count_run f image a b 1 + count_run f image a b 2 + count_run f image a b 3
       + count_run f image a b 4 + count_run f image a b 5 ≡ b - a
-  six_counts = tallies.six-add-up size (verdict_of f) (verdict-le f) run (b - a)
+  six_counts = tallies.six_add_up size (verdict_of f) (verdict-le f) run (b - a)
 
   pub five_counts : needed_run f image a b
       ≡ count_run f image a b 1 + count_run f image a b 2 + count_run f image a b 3 + count_run f image a b 4 + count_run f image a b 5
-  five_counts = omega (arith, six_counts, needed-or_clean size (verdict_of f) run (b - a))
+  five_counts = omega (arith, six_counts, needed_or_clean size (verdict_of f) run (b - a))
 
   -- the entry of the record i, among the run's entries
   at-run : (i : ℕ) → a ≤ i → record_at size run (i - a) ≡ record_at size image i
@@ -192,14 +192,14 @@ module _ (o : Opened) (d : ℕ) (p : Pass) (s : State)
   -- THE IMAGE: what lies before the run stays, and what lies after it
   pub before_stays : take (a * record_size d) now.image ≡ take (a * record_size d) s.image
   before_stays =
-      ap (λ x. take (a * record_size d) x.image) is-done ∙ runs.before-stays (record_size d) left left_each s.image a b rising fits
+      ap (λ x. take (a * record_size d) x.image) is-done ∙ runs.before_stays (record_size d) left left_each s.image a b rising fits
 
   pub after_stays : drop (b * record_size d) now.image ≡ drop (b * record_size d) s.image
   after_stays =
-      ap (λ x. drop (b * record_size d) x.image) is-done ∙ runs.after-stays (record_size d) left left_each s.image a b rising fits
+      ap (λ x. drop (b * record_size d) x.image) is-done ∙ runs.after_stays (record_size d) left left_each s.image a b rising fits
 
   pub length_image : length now.image ≡ length s.image
-  length_image = ap (λ x. length x.image) is-done ∙ runs.length-overRun (record_size d) left left_each s.image a b rising fits
+  length_image = ap (λ x. length x.image) is-done ∙ runs.length-over_run (record_size d) left left_each s.image a b rising fits
 
   -- the entry of the record i, where it has one
   abbrev pub entered : ℕ → Entry
@@ -223,7 +223,7 @@ module _ (o : Opened) (d : ℕ) (p : Pass) (s : State)
     pub record-left : record_at (record_size d) now.image i ≡ left_of f rec
     record-left =
         ap (λ x. record_at (record_size d) x.image i) is-done
-        ∙ runs.record-within (record_size d) left left_each s.image a b rising fits i l u
+        ∙ runs.record_within (record_size d) left left_each s.image a b rising fits i l u
 
     -- only records of verdict 1 and 2 change, each to the word that reading hands back
     pub unmended-stays : verdict_of f rec ≢ 1 → verdict_of f rec ≢ 2 → record_at (record_size d) now.image i ≡ rec

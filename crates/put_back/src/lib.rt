@@ -7,7 +7,7 @@ use entry_back::Step;
 
 // The answer of a put-back: how many entries were put back, also where it stopped (18).
 #[repr(C)]
-#[derive(Drop)]
+#[derive(Clone, Copy)]
 pub struct PutBack {
     pub number: usize,
     pub told: usize,

@@ -50,7 +50,7 @@ pub fn wrong_places(n: usize, bad: &[usize]) -> bool
 }
 
 // A proper word, where one is within reach.
-#[derive(Drop)]
+#[derive(Clone, Copy)]
 pub enum Reached {
     Nothing,
     Proper(Word),

@@ -5,7 +5,7 @@ ghost use Rattle.entry_back.specs.Entry.{step_of, stepped_image};
 
 use entry_back::Step;
 
-#[derive(Drop)]
+#[derive(Clone, Copy)]
 pub struct Reader<'a> {
     pub journal: &'a [u8],
     pub place: usize,

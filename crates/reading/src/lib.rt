@@ -26,7 +26,7 @@ fn mended(verdict: Verdict, k: usize, word: Word) -> Word
 
 // The answer to a reading: verdict, place, syndrome and the word handed back, all 0 where it is refused.
 #[repr(C)]
-#[derive(Drop)]
+#[derive(Clone, Copy)]
 pub struct Reading {
     pub number: usize,
     pub told: usize,

@@ -9,7 +9,7 @@ use word::Word;
 
 // The answer: the code word, 0 where it is refused.
 #[repr(C)]
-#[derive(Drop)]
+#[derive(Clone, Copy)]
 pub struct Recovery {
     pub number: usize,
     pub told: usize,

@@ -10,7 +10,7 @@ use lib.Count.{ones_in}
 use lib.ListN.{length}
 use Rattle.parity.specs.Odd.{Parity}
 use Rattle.parity.proofs.Ones.{differ-sum, no_ones, ones_in_lem}
-use Rattle.parity.proofs.Xor.{eq_of_xor-zero}
+use Rattle.parity.proofs.Xor.{eq_of_xor_zero}
 use Rattle.columns.specs.Mix.{mix, taken, column}
 use Rattle.columns.specs.Rule.{Good}
 use Rattle.columns.proofs.Linear.{mix-xor}
@@ -100,4 +100,4 @@ module _ {odd : ℕ → ℕ} {cs : List ℕ} (g : Good odd cs) (o : Parity odd) 
       let x = bit_xor u v in
       let made : mix cs x ≡ 0 = mix-xor cs u v ∙ ap₂ bit_xor eu ev in
       let none : ¬ (1 ≤ weight cs x) = λ some. no_sum x some few made in
-      eq_of_xor-zero u v (no_ones x (sym (ones_in_lem (length cs) x (xor_lt (length cs) u v hu hv)) ∙ omega arith))
+      eq_of_xor_zero u v (no_ones x (sym (ones_in_lem (length cs) x (xor_lt (length cs) u v hu hv)) ∙ omega arith))

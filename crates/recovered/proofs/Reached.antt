@@ -13,7 +13,7 @@ use lib.Count.{ones}
 use lib.Dec.{eqb}
 use lib.ListN.{length}
 use Rattle.parity.proofs.Ones.{below_or_not, no_ones, ones_in_lem, single}
-use Rattle.parity.proofs.Xor.{eq_of_xor-zero, xor_undo}
+use Rattle.parity.proofs.Xor.{eq_of_xor_zero, xor_undo}
 use Rattle.columns.specs.Mix.{flipped}
 use Rattle.columns.proofs.Words.{flip_lt}
 use Rattle.word.specs.Word.{in_parts}
@@ -119,7 +119,7 @@ module _ (rows : ℕ) (cs : List ℕ) (k : ℕ) where
     near-to u v hu hv proper few count =
         ⊎_elim
         (λ (l : ones (bit_xor v u) < 1).
-        let same : u ≡ v = sym (eq_of_xor-zero v u (no_ones (bit_xor v u) (omega arith))) in
+        let same : u ≡ v = sym (eq_of_xor_zero v u (no_ones (bit_xor v u) (omega arith))) in
         near_by u v [] (record { rising = tt; few = omega arith }) same proper)
         (λ (l : 1 ≤ ones (bit_xor v u)).
         let i = single (length cs) (bit_xor v u) (xor_lt (length cs) v u hv hu) (omega arith) in

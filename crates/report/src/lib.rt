@@ -91,7 +91,7 @@ pub fn journal_text(journal: &[u8], out: &mut [u8]) -> usize
 }
 
 // The counts of several runs, added up.
-#[derive(Drop)]
+#[derive(Clone, Copy)]
 pub struct Totals {
     pub clean: usize,
     pub data: usize,

@@ -5,7 +5,7 @@ ghost use Rattle.row_judge.specs.Judge.{no_set, not_triangular, judge_reasons, j
 use faults::Fault;
 
 // What the judge says, a case for each refusal: 1, 2, 3 with its place, the four reasons of 20, 21 with its place.
-#[derive(Drop)]
+#[derive(Clone, Copy)]
 pub enum JudgedRows {
     Accepted,
     NoData,

@@ -9,7 +9,7 @@ use row_judge::JudgedRows;
 // A code of this family as it is handed about: n columns, the last r of them check columns, and a set of rows, bit j for row j.
 // Places past n hold 0.
 #[repr(C)]
-#[derive(Drop)]
+#[derive(Clone, Copy)]
 pub struct RowCode {
     pub columns: [u16; 80],
     pub n: usize,
@@ -19,7 +19,7 @@ pub struct RowCode {
 
 // The same of the wide edition, of 144 places.
 #[repr(C)]
-#[derive(Drop)]
+#[derive(Clone, Copy)]
 pub struct WideRowCode {
     pub columns: [u16; 144],
     pub n: usize,

@@ -98,12 +98,12 @@ module _ (size : ℕ) (verdict : List ℕ → ℕ) (entry : ℕ → List ℕ →
       go e false = refl
 
 -- a record needs an entry, or is clean
-pub needed-or_clean : (size : ℕ) (verdict : List ℕ → ℕ) (run : List ℕ) (k : ℕ)
+pub needed_or_clean : (size : ℕ) (verdict : List ℕ → ℕ) (run : List ℕ) (k : ℕ)
     → needed_of size verdict run k + count_of size verdict 0 run k ≡ k
 unfolding add_up unclean one_if
-needed-or_clean size verdict run zero = refl
-needed-or_clean size verdict run (suc k) =
-    omega (arith, needed-or_clean size verdict run k, either (eqb (verdict (record_at size run k)) 0))
+needed_or_clean size verdict run zero = refl
+needed_or_clean size verdict run (suc k) =
+    omega (arith, needed_or_clean size verdict run k, either (eqb (verdict (record_at size run k)) 0))
   where
     either : (b : Bool) → cond b 0 1 + cond b 1 0 ≡ 1
     either true = refl

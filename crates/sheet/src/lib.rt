@@ -5,7 +5,7 @@ ghost use Rattle.sheet.specs.Sheets as specs;
 
 // A station sheet: hours per device, hours per station, and the share of words mended.
 #[repr(C)]
-#[derive(Drop)]
+#[derive(Clone, Copy)]
 pub struct Sheet {
     pub device: f64,
     pub station: f64,
@@ -13,7 +13,7 @@ pub struct Sheet {
 }
 
 // A house limit on the share: a ceiling, a band from a low figure to a high one, or no limit.
-#[derive(Drop)]
+#[derive(Clone, Copy)]
 pub enum Limit {
     Ceiling(f64),
     Band(f64, f64),
@@ -22,7 +22,7 @@ pub enum Limit {
 
 // The answer: yes exactly when the share is within the limit.
 #[repr(C)]
-#[derive(Drop)]
+#[derive(Clone, Copy)]
 pub struct SheetAnswer {
     pub number: usize,
     pub told: usize,
@@ -46,14 +46,14 @@ fn finite(x: f64) -> bool
 
 // A limit's figure: finite, and not below zero.
 fn figure_stands(x: f64) -> bool
-    ensures { result ≡ specs.figureStands x }
+    ensures { result ≡ specs.figure_stands x }
 {
     finite(x) & !(x < 0.0)
 }
 
 // A band's ends may be equal, but it is not upside down.
 fn limit_stands(limit: Limit) -> bool
-    ensures { result ≡ specs.limitStands limit }
+    ensures { result ≡ specs.limit_stands limit }
 {
     match limit {
         Limit::Ceiling(high) => figure_stands(high),
@@ -76,7 +76,7 @@ fn stands(hours: f64, devices: usize, words: usize, mended: usize, limit: Limit)
 
 // Hours per station: hours per device by the count of devices, rounded once.
 fn station_hours(hours: f64, devices: u16) -> f64
-    ensures { result ≡ specs.stationHours hours devices }
+    ensures { result ≡ specs.station_hours hours devices }
 {
     hours / devices as f64
 }
@@ -107,7 +107,7 @@ pub fn sheet_of(
     mended: usize,
     limit: Limit,
 ) -> SheetAnswer
-    ensures { result ≡ specs.sheetOf (specs.asked hours devices words mended limit) }
+    ensures { result ≡ specs.sheet_of (specs.asked hours devices words mended limit) }
 {
     if stands(hours, devices, words, mended, limit) {
         let station = station_hours(hours, devices as u16);

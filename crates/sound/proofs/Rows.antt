@@ -57,5 +57,5 @@ sound_rows_in most places n r rows l =
 pub sound_rows : (code : RowCode) → length code.columns ≡ 80 → SoundOpened (opened_rows code)
 sound_rows code l = sound_rows_in 64 code.columns code.n code.r code.rows l
 
-pub sound_wide-rows : (code : WideRowCode) → length code.columns ≡ 144 → SoundOpened (opened_wide_rows code)
-sound_wide-rows code l = sound_rows_in 128 code.columns code.n code.r code.rows l
+pub sound_wide_rows : (code : WideRowCode) → length code.columns ≡ 144 → SoundOpened (opened_wide_rows code)
+sound_wide_rows code l = sound_rows_in 128 code.columns code.n code.r code.rows l

@@ -11,7 +11,7 @@ use lib.Arith.{lt-one}
 use lib.Bits.{bit_xor, xor_self, xor_comm, xor_zero_r, xor_lt, xor_mod, xor_shifted}
 use lib.ListN.{length}
 use lib.Pow.{pow_pos, pow_mono, mod-mod-pow, mod-pow-add}
-use Rattle.parity.proofs.Xor.{xor_assoc, xor_swap, eq_of_xor-zero, xor-zero_of_eq}
+use Rattle.parity.proofs.Xor.{xor_assoc, xor_swap, eq_of_xor_zero, xor_zero_of_eq}
 use Rattle.columns.specs.Mix.{column, mix, taken, singles}
 use Rattle.columns.proofs.Linear.{mix-xor, mix-zero}
 use Rattle.columns.proofs.Singles.{length-singles, single_at}
@@ -156,7 +156,7 @@ module _ (checks : List ℕ) (below : (p : ℕ) → p < length checks → column
       let r = length checks in
       let m : missing checks s c < 2 ^ r = xor_lt r (mix checks c) s (mix-lt checks c r below) hs in
       let at : i ≡ r = omega arith in
-      (eq_of_xor-zero (mix checks c) s (end (missing checks s c) m (rw at at sh)), hc)
+      (eq_of_xor_zero (mix checks c) s (end (missing checks s c) m (rw at at sh)), hc)
   solved_from s (suc n) i c hs hc e sh =
       let r = length checks in
       let m : missing checks s c < 2 ^ r = xor_lt r (mix checks c) s (mix-lt checks c r below) hs in
@@ -180,9 +180,9 @@ module _ (checks : List ℕ) (below : (p : ℕ) → p < length checks → column
   solves_once : (c d : ℕ) → c < 2 ^ length checks → d < 2 ^ length checks → mix checks c ≡ mix checks d → c ≡ d
   solves_once c d h l e =
       let r = length checks in
-      let z : mix checks (bit_xor c d) ≡ 0 = mix-xor checks c d ∙ xor-zero_of_eq (mix checks c) (mix checks d) e in
+      let z : mix checks (bit_xor c d) ≡ 0 = mix-xor checks c d ∙ xor_zero_of_eq (mix checks c) (mix checks d) e in
       let x = xor_lt r c d h l in
-      eq_of_xor-zero c d (end (bit_xor c d) x (fixed (bit_xor c d) r x z (le_refl r)))
+      eq_of_xor_zero c d (end (bit_xor c d) x (fixed (bit_xor c d) r x z (le_refl r)))
 
 -- ---- both corners
 

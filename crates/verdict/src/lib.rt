@@ -5,7 +5,7 @@ ghost use Rattle.columns.specs.Mix.{place_in};
 ghost use Rattle.verdict.specs.Verdicts.{verdict_on, found, finding_of};
 
 // Document 01's verdicts 0 to 5, with the place that is flipped.
-#[derive(Drop)]
+#[derive(Clone, Copy)]
 pub enum Verdict {
     Clean,
     Data(usize),
@@ -44,7 +44,7 @@ pub fn verdict_on(columns: &[u16], k: usize, rows: u16, s: u16) -> Verdict
 }
 
 // Document 01's number of a verdict, and its place, 255 for none.
-#[derive(Drop)]
+#[derive(Clone, Copy)]
 pub struct Finding {
     pub verdict: usize,
     pub place: usize,

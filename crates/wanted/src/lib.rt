@@ -4,7 +4,7 @@ ghost use Rattle.wanted.specs.Wanted.{wanted_in, wanted_of, wanted_wide};
 
 // The number, and the check bits where it is 0.
 #[repr(C)]
-#[derive(Drop)]
+#[derive(Clone, Copy)]
 pub struct CheckBits {
     pub number: usize,
     pub bits: usize,

@@ -8,7 +8,7 @@ use code::{Opened, Standing};
 
 // The answer to writing: the check bits, 0 where it is refused.
 #[repr(C)]
-#[derive(Drop)]
+#[derive(Clone, Copy)]
 pub struct CheckWord {
     pub number: usize,
     pub told: usize,

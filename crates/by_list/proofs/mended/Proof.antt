@@ -11,7 +11,7 @@ use Rattle.record.specs.Tally.{counted_of, count_of}
 use Rattle.record.proofs.Over.{part_length, over_all}
 use Rattle.runs.proofs.Sizes.{whole-fits, no_rest, number_below}
 use Rattle.runs.proofs.Run.{fits_less, record_length}
-use Rattle.runs.proofs.Journal.{needed_more, needed-or_clean}
+use Rattle.runs.proofs.Journal.{needed_more, needed_or_clean}
 use Rattle.verdict.specs.Places.{NamesPlace}
 use Rattle.verdict.specs.Verdicts.{finding_of}
 use Rattle.at_record.specs.Outcome.{Reader, reader, seen, sight, verdict_of}
@@ -176,7 +176,7 @@ sub-tally c =
     omega (
       arith,
       s.requires.0.count,
-      needed-or_clean (record_size a.d) (verdict_of (reader a.columns.now a.k a.rows a.d)) a.run.now
+      needed_or_clean (record_size a.d) (verdict_of (reader a.columns.now a.k a.rows a.d)) a.run.now
           (records_in a.d a.run.now),
     )
 
@@ -194,7 +194,7 @@ loop-holds c =
     let n : ℕ = records_in a.d a.run.now in
     let verdict = verdict_of (reader a.columns.now a.k a.rows a.d) in
     let clean : n - a.bad ≡ count_of (record_size a.d) verdict 0 a.run.now n =
-    omega (arith, s.requires.0.count, needed-or_clean (record_size a.d) verdict a.run.now n) in
+    omega (arith, s.requires.0.count, needed_or_clean (record_size a.d) verdict a.run.now n) in
     let z = c.new.ensures in (
       omega arith,
       sym (mul-zero (entry_size a.d)),

@@ -11,7 +11,7 @@ use Rattle.record.specs.Layout.{record_size, records_in}
 use Rattle.record.specs.Run.{record_at, add_up}
 use Rattle.record.specs.Journal.{needed_of}
 use Rattle.runs.proofs.Sizes.{whole-fits}
-use Rattle.runs.proofs.Journal.{needed_clean, needed_more, needed-or_clean}
+use Rattle.runs.proofs.Journal.{needed_clean, needed_more, needed_or_clean}
 use Rattle.tables.specs.Tables.{lookups}
 use Rattle.marks.specs.Marks.{mark_of, said_of, Listed}
 use Rattle.marks.proofs.Listing.{list-clean, list-more}
@@ -55,7 +55,7 @@ fits c =
     omega (arith, suc-mul h.loop.x (size h), whole-fits (size h) (length run) (suc h.loop.x) l)
 
 few : (c : tie.At-loop invariant-loop decreases-loop) → c.loop.bad ≤ c.loop.x
-few c = omega (arith, c.loop.invariant.2, needed-or_clean (size c) (mark c) (start c).args.run.now c.loop.x)
+few c = omega (arith, c.loop.invariant.2, needed_or_clean (size c) (mark c) (start c).args.run.now c.loop.x)
 
 room : (c : tie.In-loop invariant-loop decreases-loop) → c.before.loop.bad < length c.before.loop.list
 room c = omega (arith, few c.before, (start c.before).pre)

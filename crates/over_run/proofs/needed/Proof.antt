@@ -8,7 +8,7 @@ use lib.ListN.{length, take, drop}
 use Rattle.record.specs.Layout.{record_size, records_in}
 use Rattle.record.specs.Run.{record_at, add_up}
 use Rattle.record.specs.Journal.{needed_of}
-use Rattle.runs.proofs.Journal.{needed_clean, needed_more, needed-or_clean}
+use Rattle.runs.proofs.Journal.{needed_clean, needed_more, needed_or_clean}
 use Rattle.verdict.specs.Verdicts.{finding_of}
 use Rattle.at_record.specs.Outcome.{Reader, reader, seen, verdict_of}
 use Rattle.runs.proofs.Sizes.{whole-fits}
@@ -99,7 +99,7 @@ add-count : tie.Need-overflow-add-count invariant-loop decreases-loop
 add-count c =
     let h = head c.before.before in
     let run = (start h).args.run.now in
-    record { fits = omega (arith, div-le_self (length run) (size h), needed-or_clean (size h) (verdict_of (with h)) run h.loop.i) }
+    record { fits = omega (arith, div-le_self (length run) (size h), needed_or_clean (size h) (verdict_of (with h)) run h.loop.i) }
 
 loop-less : tie.Need-loop-smaller invariant-loop decreases-loop
 loop-less c = search rules

@@ -9,7 +9,7 @@ use borrow.Author.Rules.{rules}
 use lib.ListN.{length}
 use Rattle.record.specs.Layout.{head_size, record_size, entry_size, records_in, in_bytes}
 use Rattle.runs.proofs.Sizes.{whole-fits, run-whole}
-use Rattle.runs.proofs.Journal.{needed-or_clean}
+use Rattle.runs.proofs.Journal.{needed_or_clean}
 use Rattle.code.specs.Opened.{refusal}
 use Rattle.at_record.specs.Outcome.{Reader, reader, verdict_of}
 use Rattle.over_run.specs.Whole.{needed_by, entries_by}
@@ -67,7 +67,7 @@ records s = part-records (with s) s.args.image.now s.args.start s.args.end (up s
 
 -- no more entries than records
 few : (s : tie.Start) → needed_by (with s) (run s) ≤ records_in s.args.d (run s)
-few s = omega (arith, needed-or_clean (size s) (verdict_of (with s)) (run s) (records_in s.args.d (run s)))
+few s = omega (arith, needed_or_clean (size s) (verdict_of (with s)) (run s) (records_in s.args.d (run s)))
 
 -- the entries in use lie within the journal
 in_use : (s : tie.Start) → s.args.used ≤ length s.args.journal.now / step s

@@ -39,8 +39,8 @@ returns t c =
     let a = c.before.before.before.before.args in
     c.near.ensures ∙ sym (reach_none a.columns.now a.k a.flips a.word a.bad.now c.before.if1.true)
 
-shared_slice_read-p : (t : ℕ) → reach-lts.Need-shared-slice-read-p (calls t) (reach_at t) reach.Post
-shared_slice_read-p t c = let h = c.before.if1.false in omega arith
+shared_slice_read_p : (t : ℕ) → reach-lts.Need-shared-slice-read-p (calls t) (reach_at t) reach.Post
+shared_slice_read_p t c = let h = c.before.if1.false in omega arith
 
 sub_reach : (t : ℕ) → reach-lts.Need-overflow-sub-reach (calls t) (reach_at t) reach.Post
 sub_reach t c = let h = c.before.if1.false in omega arith
@@ -129,7 +129,7 @@ pub +reach-spec : {M : Type 1} → statement M
     reach.Post
     (near_requires t)
     (returns t)
-    (shared_slice_read-p t)
+    (shared_slice_read_p t)
     (sub_reach t)
     (part_reach_start t)
     (part_reach_end t)

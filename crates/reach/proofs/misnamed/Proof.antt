@@ -25,8 +25,8 @@ loop-holds c = search rules
 mul-p : tie.Need-overflow-mul-p invariant-loop decreases-loop
 mul-p c = search rules
 
-shared_slice_read-p : tie.Need-shared-slice-read-p invariant-loop decreases-loop
-shared_slice_read-p c = search rules
+shared_slice_read_p : tie.Need-shared-slice-read-p invariant-loop decreases-loop
+shared_slice_read_p c = search rules
 
 add-i : tie.Need-overflow-add-i invariant-loop decreases-loop
 add-i c = search rules
@@ -103,7 +103,7 @@ misnamed-spec =
     decreases-loop
     loop-holds
     mul-p
-    shared_slice_read-p
+    shared_slice_read_p
     add-i
     returns
     mul-stands

@@ -2,7 +2,7 @@
 use mathlib.Core.Path.{◌≡◌, sym, ap, subst, ◌∙◌}
 use lib.ListN.{length}
 use Rattle.code.specs.Opened.{SoundOpened}
-use Rattle.sound.proofs.Rows.{sound_wide-rows}
+use Rattle.sound.proofs.Rows.{sound_wide_rows}
 use Rattle.explain.specs.Explanations.{explain_of}
 use borrow.Author.Rules.{rules}
 use Rattle.row_desk.proofs.wide.explain.Statement.{statement}
@@ -16,7 +16,7 @@ explain-requires c κs =
     let a = c.before.before.before.args in
     let h : length a.code.columns ≡ 144 = search rules in
     let opened = c.before.open-wide-rows.ensures in
-    (opened.1.0, subst SoundOpened (sym opened.0) (sound_wide-rows a.code h))
+    (opened.1.0, subst SoundOpened (sym opened.0) (sound_wide_rows a.code h))
 
 same_length : tie.Need-same-length
 same_length c = search rules
