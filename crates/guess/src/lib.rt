@@ -1,4 +1,6 @@
 // Places by a guess that is checked: a table of 512 slots by a column's low nine bits, so that most places are found in one look.
+#![tactic(auto)]
+
 ghost use Rattle.std.specs.Prelude.{◌≡◌, ◌<◌, length};
 ghost use Rattle.columns.specs.Mix.{column, place_in};
 ghost use Rattle.guess.specs.Guess.{slots, Guessed};

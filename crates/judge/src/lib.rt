@@ -1,4 +1,6 @@
 // The judge of a code of Hsiao's family, in any number of places.
+#![tactic(auto)]
+
 ghost use Rattle.std.specs.Prelude.{◌≡◌, ◌≤◌, ◌<◌, length};
 ghost use Rattle.judge.specs.Judge.{judge_column, judge_columns, judge_rest, judge_in};
 
