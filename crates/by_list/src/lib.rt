@@ -7,7 +7,7 @@ ghost use Rattle.over_run.specs.Whole.{tally_in, left_in, entries_by};
 ghost use Rattle.parity.specs.Odd.{odd_in};
 ghost use Rattle.verdict.specs.Verdicts.{verdict_on};
 ghost use Rattle.guess.specs.Guess.{Guessed};
-ghost use Rattle.by_list.specs.Given.{mixed_of, ListFits};
+ghost use Rattle.by_list.specs.Given.{mixed_of, Given};
 
 use record::{CHECK, HEAD, Tally};
 use verdict::Verdict;
@@ -68,8 +68,7 @@ pub fn mended(
     journal: &mut [u8],
     stamp: u32,
 ) -> Tally
-    requires list_fits { ListFits (reader columns.now k rows d) list.now bad run.old first journal.old }
-    requires guessed { Guessed columns.now guesses.now }
+    requires { Given (reader columns.now k rows d) guesses.now list.now bad run.old first journal.old }
     ensures value { result ≡ tally_in (reader columns.now k rows d) run.old }
     ensures run_after { run.new ≡ left_in (reader columns.now k rows d) run.old }
     ensures journal_after { journal.new

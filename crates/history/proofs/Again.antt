@@ -10,13 +10,13 @@ use lib.ListN.{length, take, drop}
 use lib.Seq.{take-add, take_at}
 use Rattle.parity.proofs.Ones.{below_or_not}
 use Rattle.record.specs.Layout.{entry_size, entry_in, in_bytes}
-use Rattle.record.specs.Run.{record_at, over_from}
+use Rattle.record.specs.Run.{record_at}
 use Rattle.runs.proofs.Run.{record_take}
 use Rattle.code.specs.declared.Opened.{Opened}
 use Rattle.code.specs.declared.Standing.TheVariants as standing
 use Rattle.at_record.specs.Outcome.{Reader}
 use Rattle.asked.specs.Pass.{Pass, State, room_in, last_stamp}
-use Rattle.pass.specs.Pass.{After, noted_run, needed_run, reader_of, after_pass}
+use Rattle.pass.specs.Pass.{After, noted_run, needed_run, behind, reader_of, after_pass}
 use Rattle.asked.specs.Asked.{GoesBack, GoesOn, Askable}
 use Rattle.pass.proofs.Cases.{refused_with, done_with, pass_refused}
 use Rattle.pass.proofs.Answers.{answer_12, answer-14, answer-17, answer-16, answer-13, answer-done}
@@ -94,14 +94,14 @@ module _ (o : Opened) (d : ℕ) (p : Pass) (s : State) (other : List ℕ) (long 
     new = in_bytes (noted_run f p.stamp s.image p.start p.end)
 
     in-use-now : (j : List ℕ) → s.used * entry_size d ≤ length j
-        → take ((s.used + needed) * entry_size d) (over_from (s.used * entry_size d) new j) ≡ take (s.used * entry_size d) j ++ new
+        → take ((s.used + needed) * entry_size d) (behind (s.used * entry_size d) new j) ≡ take (s.used * entry_size d) j ++ new
     in-use-now j fits =
         let n = s.used * entry_size d in
         let size : length new ≡ needed * entry_size d =
         length-noted_run f s.image p.start p.end (rising o d p s taken done) (fits-image o d p s taken done) p.stamp
         ∙ mul_comm (entry_size d) needed in
-        ap (λ k. take k (over_from n new j)) (add-mul s.used needed (entry_size d))
-        ∙ take-add n (needed * entry_size d) (over_from n new j)
+        ap (λ k. take k (behind n new j)) (add-mul s.used needed (entry_size d))
+        ∙ take-add n (needed * entry_size d) (behind n new j)
         ∙ ap₂ (λ u v. u ++ take (needed * entry_size d) v) (take_behind n new j fits) (drop-behind n new j fits)
         ∙ ap (λ l. take n j ++ l) (take_at new (drop (length new) (drop n j)) (needed * entry_size d) size)
 

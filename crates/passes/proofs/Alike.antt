@@ -7,7 +7,7 @@ use Prim.Native.Nat.{ℕ, ◌+◌, ◌-◌, ◌*◌, ◌/◌, ◌%◌, ◌≤◌
 use native.Mathlib.Omega.{arith}
 use lib.ListN.{length}
 use Rattle.record.specs.Layout.{record_size, entry_size, image_limit, Entry, in_bytes}
-use Rattle.record.specs.Run.{record_at, from_record, sum_run, over_from}
+use Rattle.record.specs.Run.{record_at, from_record, sum_run}
 use Rattle.record.specs.Tally.{one_if}
 use Rattle.record.specs.Journal.{unclean, noted}
 use Rattle.runs.proofs.Run.{record_drop, sum_alike, gather_alike}
@@ -16,7 +16,7 @@ use Rattle.code.specs.declared.Opened.{Opened}
 use Rattle.code.specs.declared.Standing.TheVariants as standing
 use Rattle.at_record.specs.Outcome.{Reader, verdict_of, left_of, entry_of}
 use Rattle.asked.specs.Pass.{Pass, State}
-use Rattle.pass.specs.Pass.{After, noted_run, needed_run, count_run, tally_run, reader_of, after_pass}
+use Rattle.pass.specs.Pass.{After, noted_run, needed_run, count_run, tally_run, behind, reader_of, after_pass}
 use Rattle.asked.specs.Asked.{Image, Run, Askable}
 use Rattle.pass.proofs.Cases.{refused_with, done_with, pass_refused}
 use Rattle.pass.proofs.Answers.{answer_12, answer-14, answer-17, answer-16, answer-13, answer-done}
@@ -105,7 +105,7 @@ module _ (o : Opened) (d : ℕ) (p : Pass) (s : State) (other : List ℕ) (long 
             ∙ (λ i. record { number = 0; told = 0; used = s.used + m i; tally = tally i })
             ∙ sym (ap (λ z. z.answer) y),
         ap (λ z. z.journal) x
-            ∙ ap (λ l. over_from (s.used * entry_size d) (in_bytes l) s.journal) entries
+            ∙ ap (λ l. behind (s.used * entry_size d) (in_bytes l) s.journal) entries
             ∙ sym (ap (λ z. z.journal) y),
         λ j l u.
             record-left o d p s' e (ap (λ z. z.answer.number) x) j l u

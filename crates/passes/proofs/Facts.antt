@@ -8,7 +8,7 @@ use native.Mathlib.Nat.{add-zero, mul_comm, add-mul, mul-le-mul_right}
 use native.Mathlib.Omega.{arith}
 use lib.ListN.{length, take, drop, length-drop, take-append-drop}
 use Rattle.record.specs.Layout.{record_size, entry_size, Entry, entry_bytes, in_bytes}
-use Rattle.record.specs.Run.{record_at, gather, add_up, from_record, over_from}
+use Rattle.record.specs.Run.{record_at, gather, add_up, from_record}
 use Rattle.record.specs.Tally.{zero_tally}
 use Rattle.record.specs.Journal.{unclean}
 use Rattle.runs.proofs.Run.{record_drop}
@@ -23,7 +23,7 @@ use Rattle.verdict.specs.Verdicts.{finding_of}
 use Rattle.reading.specs.Reading.{mended_by}
 use Rattle.at_record.specs.Outcome.{Reader, word_in, record_of, seen, syndrome_of, left_by, verdict_of, left_of, entry_of}
 use Rattle.asked.specs.Pass.{Pass, State, pass_over, room_in}
-use Rattle.pass.specs.Pass.{After, noted_run, needed_run, count_run, tally_run, reader_of, after_pass}
+use Rattle.pass.specs.Pass.{After, noted_run, needed_run, count_run, tally_run, behind, reader_of, after_pass}
 use Rattle.asked.specs.Asked.{Askable}
 use Rattle.runs.proofs.Sizes.{whole-fits, run-width}
 use Rattle.at_record.proofs.Entered.{verdict-top}
@@ -281,7 +281,7 @@ module _ (o : Opened) (d : ℕ) (p : Pass) (s : State)
   journal_stays =
       let e = add-mul s.used needed (entry_size d) in
       ap (λ x. drop ((s.used + needed) * entry_size d) x.journal) is-done
-      ∙ ap (λ n. drop n (over_from (s.used * entry_size d) bytes s.journal)) e
+      ∙ ap (λ n. drop n (behind (s.used * entry_size d) bytes s.journal)) e
       ∙ past_behind (s.used * entry_size d) bytes s.journal in_use (needed * entry_size d) long
       ∙ ap (λ n. drop n s.journal) (sym e)
 

@@ -12,7 +12,7 @@ use lib.ListN.{length}
 use Rattle.record.specs.declared.Tally.{Tally}
 use Rattle.record.specs.Bytes.{AllBytes}
 use Rattle.record.specs.Layout.{record_size, entry_size, Entry, in_bytes}
-use Rattle.record.specs.Run.{record_at, gather, add_up, from_record, gather_run, over_from}
+use Rattle.record.specs.Run.{record_at, gather, add_up, from_record, gather_run}
 use Rattle.record.specs.Tally.{tally_by, one_if, tally_of}
 use Rattle.record.specs.Journal.{unclean, noted}
 use Rattle.runs.proofs.Numbers.{bytes-part}
@@ -26,7 +26,7 @@ use Rattle.code.specs.declared.Standing.TheVariants as standing
 use Rattle.code.specs.Opened.{Laid, SoundOpened}
 use Rattle.at_record.specs.Outcome.{Reader, Held, verdict_of, left_of, entry_of}
 use Rattle.asked.specs.Pass.{Pass, State, pass_over, state_of, room_in}
-use Rattle.pass.specs.Pass.{After, left_run, noted_run, needed_run, count_run, tally_run, reader_of, after_pass}
+use Rattle.pass.specs.Pass.{After, left_run, noted_run, needed_run, count_run, tally_run, behind, reader_of, after_pass}
 use Rattle.asked.specs.Asked.{GoesOn, Askable}
 use Rattle.at_record.proofs.Outcomes.{length-left_of}
 use Rattle.pass.proofs.Cases.{done_with}
@@ -256,13 +256,13 @@ module _ (o : Opened) (d a b c stamp : ℕ) (s : State) (taken : o.standing ≡ 
           let long : length (in_bytes x) ≡ part * size =
           length-noted_run g s.image a b up (fits o d first s taken z) stamp ∙ mul_comm size part in
           ap (λ w. w.journal) whole-done
-          ∙ ap (λ l. over_from (s.used * size) (in_bytes l) s.journal)
+          ∙ ap (λ l. behind (s.used * size) (in_bytes l) s.journal)
           (gather-split (record_size d) s.image a b c up on (noted (verdict_of g) (entry_of g stamp)))
-          ∙ ap (λ l. over_from (s.used * size) l s.journal) (in_bytes-append x y)
+          ∙ ap (λ l. behind (s.used * size) l s.journal) (in_bytes-append x y)
           ∙ sym (from-from (s.used * size) (part * size) (in_bytes x) (in_bytes y) s.journal long (in_use o d first s taken z))
-          ∙ ap (λ n. over_from n (in_bytes y) (over_from (s.used * size) (in_bytes x) s.journal))
+          ∙ ap (λ n. behind n (in_bytes y) (behind (s.used * size) (in_bytes x) s.journal))
           (sym (add-mul s.used part size) ∙ ap (λ n. n * size) (sym used-mid))
-          ∙ ap₂ (λ l j. over_from (mid.used * size) (in_bytes l) j)
+          ∙ ap₂ (λ l j. behind (mid.used * size) (in_bytes l) j)
           (sym (rest-noted g s.image mid.image b c rest-same stamp)) (sym (ap (λ w. w.journal) (done-is o d first s taken z)))
           ∙ sym (ap (λ w. w.journal) (done-is o d second mid taken t))
 

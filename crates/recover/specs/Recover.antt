@@ -1,5 +1,6 @@
 -- Places known to be bad: the proper word that differs from a word as read in bad places and in few others. Rows 7, 22 and 23 of the
--- refusals. It speaks of words and places, not of syndromes. A proper word is 02's code word: one that reads clean. Assumes nothing.
+-- refusals. It speaks of words and places, not of syndromes. A proper word is 02's code word: one that reads
+-- clean. Assumes nothing.
 use Rattle.std.specs.Prelude.{cond, List, [], ◌∷◌, ◌++◌, map, ℕ, ◌-◌, ◌/◌, length}
 use Rattle.columns.specs.Mix.{flipped}
 use Rattle.code.specs.declared.Opened.{Opened}

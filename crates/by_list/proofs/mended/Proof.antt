@@ -69,7 +69,7 @@ whole c = whole-fits (size c) (length (run₀ c)) (n c) (omega arith)
 due : (c : tie.In-loop invariant-loop decreases-loop)
     → let h = c.before in
     Due (size h) (verdict_of (with h)) (mixed_of (with h)) (run₀ h) (n h) h.loop.i (get_or (start h).args.list.now h.loop.i 0)
-due c = let h = c.before in (start h).requires.0.listed h.loop.i c.loop-test.true
+due c = let h = c.before in (start h).requires.listed h.loop.i c.loop-test.true
 
 -- what the plain pass has done before that record
 passed : (c : tie.In-loop invariant-loop decreases-loop)
@@ -88,12 +88,12 @@ fits c = let h = c.before in fits_less (size h) (length (run₀ h)) (n h) (x h) 
 numbered : (c : tie.In-loop invariant-loop decreases-loop) → let h = c.before in (start h).args.first + x h < 65535
 numbered c =
     let h = c.before in
-    number_below (size h) 65535 (length (run₀ h)) (start h).args.first (x h) (omega arith) (start h).requires.0.fits.numbered (due c).inside
+    number_below (size h) 65535 (length (run₀ h)) (start h).args.first (x h) (omega arith) (start h).requires.fits.numbered (due c).inside
 
 end_fits : (c : tie.In-loop invariant-loop decreases-loop) → let h = c.before in x h * size h + size h < 2 ^ 64
 end_fits c =
     let h = c.before in
-    omega (arith, suc-mul (x h) (size h), fits c, (start h).requires.0.fits.numbered, div-mul-le_self 65535 (size h))
+    omega (arith, suc-mul (x h) (size h), fits c, (start h).requires.fits.numbered, div-mul-le_self 65535 (size h))
 
 -- as many bytes are used as its entries before that have
 used_is : (c : tie.In-loop invariant-loop decreases-loop)
@@ -105,7 +105,7 @@ room : (c : tie.In-loop invariant-loop decreases-loop)
 room c =
     let h = c.before in
     entry-room (with h) (run₀ h) (x h) (fits c) (start h).args.journal.now h.loop.used
-    (start h).requires.0.fits.room (due c).inside (used_is c) (due c).marked
+    (start h).requires.fits.room (due c).inside (used_is c) (due c).marked
 
 entry_whole : (c : tie.In-loop invariant-loop decreases-loop)
     → let h = c.before in
@@ -175,7 +175,7 @@ sub-tally c =
     let a = s.args in
     omega (
       arith,
-      s.requires.0.count,
+      s.requires.count,
       needed_or_clean (record_size a.d) (verdict_of (reader a.columns.now a.k a.rows a.d)) a.run.now
           (records_in a.d a.run.now),
     )
@@ -184,7 +184,7 @@ cast-tally : tie.Need-overflow-cast-tally invariant-loop decreases-loop
 cast-tally c =
     let s = c.before.before.before.before.before.before in
     let size = record_size s.args.d in
-    omega (arith, s.requires.0.fits.numbered, div-mul-le_self 65535 size, div-le_self (length s.args.run.now) size)
+    omega (arith, s.requires.fits.numbered, div-mul-le_self 65535 size, div-le_self (length s.args.run.now) size)
 
 loop-holds : tie.Need-loop-init invariant-loop decreases-loop
 unfolding gather add_up in_bytes
@@ -194,7 +194,7 @@ loop-holds c =
     let n : ℕ = records_in a.d a.run.now in
     let verdict = verdict_of (reader a.columns.now a.k a.rows a.d) in
     let clean : n - a.bad ≡ count_of (record_size a.d) verdict 0 a.run.now n =
-    omega (arith, s.requires.0.count, needed_or_clean (record_size a.d) verdict a.run.now n) in
+    omega (arith, s.requires.count, needed_or_clean (record_size a.d) verdict a.run.now n) in
     let z = c.new.ensures in (
       omega arith,
       sym (mul-zero (entry_size a.d)),
@@ -220,10 +220,10 @@ loop-holds c =
     )
 
 mul-both : tie.Need-overflow-mul-both invariant-loop decreases-loop
-mul-both c = omega (arith, (start c.before).pre.0.inside)
+mul-both c = omega (arith, (start c.before).pre.inside)
 
 shared-slice-read-both : tie.Need-shared-slice-read-both invariant-loop decreases-loop
-shared-slice-read-both c = omega (arith, (start c.before.before).pre.0.inside)
+shared-slice-read-both c = omega (arith, (start c.before.before).pre.inside)
 
 cast-x : tie.Need-overflow-cast-x invariant-loop decreases-loop
 cast-x c = search rules
@@ -266,8 +266,8 @@ sight-by-requires c κs =
     let t = c.before.before.before in
     let h = t.before in
     let p = (start h).requires in (
-      p.0.fits.ready,
-      (p.1, (record_whole t, (due t).told ∙ sym (ap (mixed_of (with h)) (as_it_was_lem t)))),
+      p.fits.ready,
+      (p.guessed, (record_whole t, (due t).told ∙ sym (ap (mixed_of (with h)) (as_it_was_lem t)))),
     )
 
 finding-of-requires : tie.Need-finding-of-requires invariant-loop decreases-loop
@@ -309,7 +309,7 @@ enter-requires c κs =
     let l = c.before.before.before.before.before in
     let t = turn l in
     let h = t.before in
-    let ready = (start h).pre.0.fits.ready in
+    let ready = (start h).pre.fits.ready in
     let names = subst (NamesPlace (start h).args.k) (sym (verdict-is l)) (seen_names (with h) ready (rec h)) in
     (record_whole t, (entry_whole t, (ready.held, names)))
 
@@ -363,7 +363,7 @@ same-length-2 c = search rules
 returns : tie.Need-returns invariant-loop decreases-loop
 returns c =
     let h = c.before in
-    let p = (start h).requires.0 in
+    let p = (start h).requires in
     let a = (start h).args in
     let none : count_to (with h) (run₀ h) (n h) ≡ h.loop.i = omega (arith, p.count) in
     let w = walked_end (with h) (run₀ h) (n h) (whole h) a.stamp a.first a.journal.now h.loop.run h.loop.journal
