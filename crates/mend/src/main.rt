@@ -12,6 +12,11 @@ use code::Code;
 use record::{DATA, ENTRY, IMAGE_BOUND, RECORD, Tally};
 use report::{LINE, REFUSAL, TALLY_LINE, Totals};
 
+// The standard input and output, as file descriptors.
+const STDIN: i32 = 0;
+
+const STDOUT: i32 = 1;
+
 // One byte more than an image may have, so that a longer input shows.
 const INPUT: usize = IMAGE_BOUND / RECORD * RECORD + 1;
 
@@ -59,7 +64,7 @@ fn mend_run(
     let answer = quick::pass(opened, DATA, image, start, end, journal, 0, 0);
     let used = ENTRY * answer.used;
     let size = report::journal_text(&journal[..used], lines);
-    io::write_all(libc::STDOUT_FILENO, &lines[..size]);
+    io::write_all(STDOUT, &lines[..size]);
     answer.tally
 }
 
@@ -97,7 +102,7 @@ fn mend_runs(image: &mut [u8], journal: &mut [u8], lines: &mut [u8]) -> Totals
 fn print_tally(totals: Totals) {
     let mut line = [0u8; TALLY_LINE];
     let size = report::tally_text(totals, &mut line);
-    io::write_all(libc::STDOUT_FILENO, &line[..size]);
+    io::write_all(STDOUT, &line[..size]);
 }
 
 fn print_refusal(number: usize)
@@ -105,7 +110,7 @@ fn print_refusal(number: usize)
 {
     let mut line = [0u8; REFUSAL];
     let size = report::refused_text(number, &mut line);
-    io::write_all(libc::STDOUT_FILENO, &line[..size]);
+    io::write_all(STDOUT, &line[..size]);
 }
 
 // A pass over no record tells whether the image is refused, before anything is printed.
@@ -128,7 +133,7 @@ fn read_image(image: &mut [u8]) -> usize
     ensures upper_bound { result ≤ length image.new }
     ensures image_len_unchanged { length image.new ≡ length image.old }
 {
-    io::read_full(libc::STDIN_FILENO, image)
+    io::read_full(STDIN, image)
 }
 
 fn main() {
