@@ -23,7 +23,7 @@ fn main() {
     if !archive.is_file() {
         stop(&format!(
             "There is no {}.\n\
-             Make it by `rt check desk && rt staticlib desk` at the top of the repository, or name its folder in DESK_LIB_DIR.",
+             Make it by `tests/archive` at the top of the repository, or name its folder in DESK_LIB_DIR.",
             archive.display()
         ));
     }
