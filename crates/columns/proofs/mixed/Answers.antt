@@ -1,6 +1,6 @@
 use mathlib.Core.Path.{◌≡◌, ap}
-use mathlib.Core.Logic.{◌⊎◌, ⊎_elim, inl, inr}
-use Prim.Native.Nat.{◌-◌, ◌/◌, ◌%◌, ◌^◌, ◌≤◌}
+use mathlib.Core.Logic.{⊎_elim, inl, inr}
+use Prim.Native.Nat.{◌/◌, ◌%◌, ◌^◌, ◌≤◌}
 use native.Mathlib.Omega.{arith}
 use lib.ListN.{get_or}
 use lib.Bits.{bit_xor}

@@ -1,6 +1,6 @@
 -- `guess::fill_guesses` meets its contract. The invariant: for the columns from i on no later place is guessed. Assumes nothing.
 use mathlib.Core.Path.{◌≡◌}
-use Prim.Native.Nat.{◌-◌, ◌≤◌}
+use Prim.Native.Nat.{◌≤◌}
 use lib.ListN.{length}
 use Rattle.guess.specs.Guess.{slots}
 use Rattle.guess.proofs.Early.{EarlyFrom}
