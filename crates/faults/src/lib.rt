@@ -1,4 +1,6 @@
 // What may be wrong at a place of a list of columns, and the first place where it is.
+#![tactic(auto)]
+
 ghost use Rattle.std.specs.Prelude.{◌≡◌, not, suc, ◌%◌, ◌^◌, ◌≤◌, ◌<◌, eqb, leb, length};
 ghost use Rattle.std.specs.Int.Bits.{bit_xor};
 ghost use Rattle.parity.specs.Odd.{odd_in};

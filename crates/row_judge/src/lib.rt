@@ -1,4 +1,6 @@
 // The judge of codes with a chosen set of rows (02's request 109).
+#![tactic(auto)]
+
 ghost use Rattle.std.specs.Prelude.{◌≡◌, ◌-◌, ◌≤◌, length};
 ghost use Rattle.row_judge.specs.Judge.{no_set, not_triangular, judge_reasons, judge_rows_in};
 

@@ -3,7 +3,7 @@
 use mathlib.Core.Path.{◌≡◌, sym, ◌∙◌}
 use mathlib.Core.Bool.{cond}
 use native.Mathlib.Omega.{arith}
-use borrow.Author.Tests.{le-leb, lt-leb, lt-ltb, le-ltb, eq-eqb, ne_eqb, not-true, not-false}
+use borrow.Author.Tests.{le-leb, lt-leb, lt-ltb, le-ltb, eq-eqb, ne_eqb}
 use lib.Dec.{ltb}
 use Rattle.columns.specs.Mix.{column, place_in}
 use Rattle.judge.specs.declared.Judged.TheVariants.{Accepted, Repeated}
@@ -34,7 +34,7 @@ returns-then-not-odd c =
     let b = c.before.before.before.before.before.before in
     simp (
       lt-leb _ _ (rw (shl_one 32 b.args.r (omega arith)) at c.if-column-limit.false),
-      even_test _ (sym c.odd.ensures ∙ not-true _ c.if-not-odd.true),
+      even_test _ (sym c.odd.ensures ∙ c.if-not-odd.true),
     )
 
 pub returns-then-weight-eq1 : goal.returns-then-weight-eq1
@@ -44,7 +44,7 @@ returns-then-weight-eq1 c =
     let b = w.before.before.before.before.before in
     simp (
       lt-leb _ _ (rw (shl_one 32 b.args.r (omega arith)) at w.if-column-limit.false),
-      odd_test _ (sym w.odd.ensures ∙ not-false _ w.if-not-odd.false),
+      odd_test _ (sym w.odd.ensures ∙ w.if-not-odd.false),
       eq-eqb _ _ (sym c.weight.ensures ∙ c.if-weight-eq1.true),
     )
 
@@ -59,12 +59,12 @@ past_three_lem c =
     let b = w.before.before.before.before.before in
     simp (
       lt-leb _ _ (rw (shl_one 32 b.args.r (omega arith)) at w.if-column-limit.false),
-      odd_test _ (sym w.odd.ensures ∙ not-false _ w.if-not-odd.false),
+      odd_test _ (sym w.odd.ensures ∙ w.if-not-odd.false),
       ne_eqb _ _ (λ e. c.if-weight-eq1.false (c.weight.ensures ∙ e)),
     )
 
 pub returns-then-place_in-i : goal.returns-then-place_in-i
-returns-then-place_in-i c = simp (past_three_lem c.before.before.before, lt-ltb _ _ (rw c.IsPlace-in.ensures at c.if-place_in-i.true))
+returns-then-place_in-i c = simp (past_three_lem c.before.before.before, lt-ltb _ _ (rw c.place_in.ensures at c.if-place_in-i.true))
 
 pub returns : goal.returns
-returns c = simp (past_three_lem c.before.before.before, le-ltb _ _ (rw c.IsPlace-in.ensures at c.if-place_in-i.false))
+returns c = simp (past_three_lem c.before.before.before, le-ltb _ _ (rw c.place_in.ensures at c.if-place_in-i.false))

@@ -20,22 +20,21 @@ returns-in_default c =
     rw (
       from_step a.columns.now a.r (length a.columns.now) at.loop-i.i (omega arith),
       ← c.judge_column-verdict.ensures,
-      decides _ _ c.in_default-own.keys2,
+      decides _ _ c.in_default.not-Accepted,
     ) at at.loop-i.invariant.1
-
-pub loop-i-preserved : goal.loop-i-preserved
-loop-i-preserved c =
-    let at = c.before.before.before.before.before in
-    let a = at.args in (
-      omega arith,
-      rw (
-        from_step a.columns.now a.r (length a.columns.now) at.loop-i.i (omega arith),
-        ← c.judge_column-verdict.ensures,
-        c.enum_told-1.given.1,
-      ) at at.loop-i.invariant.1,
-    )
 
 pub returns : goal.returns
 returns c =
     let a = c.args in
     sym (from_end a.columns.now a.r _ c.loop-i.i (omega arith)) ∙ c.loop-i.invariant.1
+
+pub loop-i-preserved : goal.loop-i-preserved
+loop-i-preserved c =
+    let a = c.args in (
+      omega arith,
+      rw (
+        from_step a.columns.now a.r (length a.columns.now) c.loop-i.i (omega arith),
+        ← c.judge_column-verdict.ensures,
+        c.in-Accepted.is,
+      ) at c.loop-i.invariant.1,
+    )

@@ -59,18 +59,17 @@ past_limits c =
 
 pub returns-in_default : goal.returns-in_default
 returns-in_default c =
-    let limits = c.before.before.before.before in
+    let limits = c.before.before.before in
     let a = limits.args in
-    sym (decides _ _ c.in_default-own.keys2)
+    sym (decides _ _ c.in_default.not-Accepted)
     ∙ ap (λ (v : Judged). unless_refused v (judge_rest a.places.now a.k)) c.judge_columns-verdict.ensures
     ∙ sym (past_limits limits)
 
 pub returns : goal.returns
 returns c =
-    let d = c.before.before.before.before in
-    let limits = d.before.before in
-    let a = limits.args in
+    let limits = c.before.before.before.before in
+    let a = c.args in
     c.judge_rest.ensures
     ∙ ap (λ (v : Judged). unless_refused v (judge_rest a.places.now a.k))
-    (sym c.enum_told-1.given.1 ∙ d.judge_columns-verdict.ensures)
+    (sym c.in-Accepted.is ∙ c.judge_columns-verdict.ensures)
     ∙ sym (past_limits limits)
