@@ -10,36 +10,30 @@ use Rattle.verdict.proofs.verdict_at.Goals as goal
 
 pub returns-then-p-k : goal.returns-then-p-k
 returns-then-p-k c =
-    let s = c.before.before.before in
-    let a = s.args in
-    let place = s.requires.p_value in
-    rw place (sym (on_data (odd_in a.rows) a.columns.now a.k a.s s.requires.s_nonzero (rw place at c.if-p-k.true)))
+    let a = c.args in
+    let place = c.requires.p_value in
+    rw place (sym (on_data (odd_in a.rows) a.columns.now a.k a.s c.requires.s_nonzero (rw place at c.if-p-k.true)))
 
 pub returns-then-p-columns : goal.returns-then-p-columns
 returns-then-p-columns c =
-    let s = c.before.before.before.before in
-    let a = s.args in
-    let place = s.requires.p_value in
+    let a = c.args in
+    let place = c.requires.p_value in
     rw place
-    (sym (on_check (odd_in a.rows) a.columns.now a.k a.s s.requires.s_nonzero
+    (sym (on_check (odd_in a.rows) a.columns.now a.k a.s c.requires.s_nonzero
     (rw place at c.if-p-k.false) (rw place at c.if-p-columns.true)))
 
 pub returns-then-odd : goal.returns-then-odd
 returns-then-odd c =
-    let e = c.before.before.before in
-    let s = e.before.before.before in
-    let a = s.args in
-    let place = s.requires.p_value in
-    sym (on_odd (odd_in a.rows) a.columns.now a.k a.s s.requires.s_nonzero
-    (rw place at e.if-p-k.false) (rw place at e.if-p-columns.false)
+    let a = c.args in
+    let place = c.requires.p_value in
+    sym (on_odd (odd_in a.rows) a.columns.now a.k a.s c.requires.s_nonzero
+    (rw place at c.if-p-k.false) (rw place at c.if-p-columns.false)
     (eqb-false _ _ (odd_test (bit_and a.s a.rows) (sym c.odd.ensures ∙ c.if-odd.true))))
 
 pub returns : goal.returns
 returns c =
-    let e = c.before.before.before in
-    let s = e.before.before.before in
-    let a = s.args in
-    let place = s.requires.p_value in
-    sym (on_even (odd_in a.rows) a.columns.now a.k a.s s.requires.s_nonzero
-    (rw place at e.if-p-k.false) (rw place at e.if-p-columns.false)
+    let a = c.args in
+    let place = c.requires.p_value in
+    sym (on_even (odd_in a.rows) a.columns.now a.k a.s c.requires.s_nonzero
+    (rw place at c.if-p-k.false) (rw place at c.if-p-columns.false)
     (eqb-true _ _ (even_test (bit_and a.s a.rows) (sym c.odd.ensures ∙ c.if-odd.false))))
