@@ -1,4 +1,6 @@
 // The cards of a code, and the search for the first weak one.
+#![tactic(auto)]
+
 ghost use Rattle.std.specs.Prelude.{◌≡◌, ◌+◌, ◌≤◌, ◌<◌, length, take, drop};
 ghost use Rattle.cards.specs.Cards.{cards_in, cut, all_cards, weak_mask, weak_mask_in, weak_card_in};
 

@@ -1,4 +1,6 @@
 // The six verdicts: the verdict on a syndrome, and its number and place.
+#![tactic(auto)]
+
 ghost use Rattle.std.specs.Prelude.{◌≡◌, ◌≢◌};
 ghost use Rattle.parity.specs.Odd.{odd_in};
 ghost use Rattle.columns.specs.Mix.{place_in};

@@ -1,4 +1,6 @@
 // Check bits wanted.
+#![tactic(auto)]
+
 ghost use Rattle.std.specs.Prelude.{◌≡◌, ◌≤◌};
 ghost use Rattle.wanted.specs.Wanted.{wanted_in, wanted_of, wanted_wide};
 

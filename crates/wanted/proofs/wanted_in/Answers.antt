@@ -5,28 +5,27 @@ use native.Mathlib.Omega.{arith}
 use borrow.Author.Tests.{le-leb, lt-leb}
 use Rattle.wanted.specs.Wanted.{band_of}
 use Rattle.wanted.proofs.Bands.{wanted-inside, wanted-refused}
-use Rattle.wanted.proofs.wanted_in.Statement.{statement}
-use Rattle.wanted.proofs.wanted_in.Tie as tie
+use Rattle.wanted.proofs.wanted_in.Goals as goal
 
-returns : tie.Need-returns
-returns c = let a = c.before.args in sym (wanted-refused a.most a.k (inr (omega arith)))
+pub returns-then-k-most : goal.returns-then-k-most
+returns-then-k-most c = let a = c.args in sym (wanted-refused a.most a.k (inr (omega arith)))
 
-returns_2 : tie.Need-returns-2
+pub returns-in-1 : goal.returns-in-1
 unfolding band_of
-returns_2 c =
-    let a = c.before.before.args in
+returns-in-1 c =
+    let a = c.args in
     rw (wanted-inside a.most a.k (omega arith) (omega arith), le-leb a.k 1 (omega arith))
 
-returns_3 : tie.Need-returns-3
+pub returns-in-2-to-4 : goal.returns-in-2-to-4
 unfolding band_of
-returns_3 c =
-    let a = c.before.before.before.before.args in
+returns-in-2-to-4 c =
+    let a = c.args in
     rw (wanted-inside a.most a.k (omega arith) (omega arith), lt-leb a.k 1 (omega arith), le-leb a.k 4 (omega arith))
 
-returns-4 : tie.Need-returns-4
+pub returns-in-5-to-11 : goal.returns-in-5-to-11
 unfolding band_of
-returns-4 c =
-    let a = c.before.before.before.before.before.args in
+returns-in-5-to-11 c =
+    let a = c.args in
     rw (
       wanted-inside a.most a.k (omega arith) (omega arith),
       lt-leb a.k 1 (omega arith),
@@ -34,10 +33,10 @@ returns-4 c =
       le-leb a.k 11 (omega arith),
     )
 
-returns-5 : tie.Need-returns-5
+pub returns-in-12-to-26 : goal.returns-in-12-to-26
 unfolding band_of
-returns-5 c =
-    let a = c.before.before.before.before.before.before.args in
+returns-in-12-to-26 c =
+    let a = c.args in
     rw (
       wanted-inside a.most a.k (omega arith) (omega arith),
       lt-leb a.k 1 (omega arith),
@@ -46,10 +45,10 @@ returns-5 c =
       le-leb a.k 26 (omega arith),
     )
 
-returns-6 : tie.Need-returns-6
+pub returns-in-27-to-57 : goal.returns-in-27-to-57
 unfolding band_of
-returns-6 c =
-    let a = c.before.before.before.before.before.before.before.args in
+returns-in-27-to-57 c =
+    let a = c.args in
     rw (
       wanted-inside a.most a.k (omega arith) (omega arith),
       lt-leb a.k 1 (omega arith),
@@ -59,10 +58,10 @@ returns-6 c =
       le-leb a.k 57 (omega arith),
     )
 
-returns-7 : tie.Need-returns-7
+pub returns-in-58-to-120 : goal.returns-in-58-to-120
 unfolding band_of
-returns-7 c =
-    let a = c.before.before.before.before.before.before.before.before.args in
+returns-in-58-to-120 c =
+    let a = c.args in
     rw (
       wanted-inside a.most a.k (omega arith) (omega arith),
       lt-leb a.k 1 (omega arith),
@@ -73,10 +72,10 @@ returns-7 c =
       le-leb a.k 120 (omega arith),
     )
 
-returns-8 : tie.Need-returns-8
+pub returns-in-121-to-128 : goal.returns-in-121-to-128
 unfolding band_of
-returns-8 c =
-    let a = c.before.before.before.before.before.before.before.before.before.args in
+returns-in-121-to-128 c =
+    let a = c.args in
     rw (
       wanted-inside a.most a.k (omega arith) (omega arith),
       lt-leb a.k 1 (omega arith),
@@ -87,15 +86,5 @@ returns-8 c =
       lt-leb a.k 120 (omega arith),
     )
 
-returns-9 : tie.Need-returns-9
-returns-9 c = let a = c.before.before.before.args in sym (wanted-refused a.most a.k (inl (omega arith)))
-
-returns-10 : tie.Need-returns-10
-returns-10 c =
-    let a = c.before.before.before.before.before.before.before.before.before.args in
-    sym (wanted-refused a.most a.k (inr (omega arith)))
-
-pub wanted-in-spec : {M : Type 1} → statement M
-wanted-in-spec =
-    tie.close
-    (tie.spec returns returns_2 returns_3 returns-4 returns-5 returns-6 returns-7 returns-8 returns-9 returns-10)
+pub returns-in_default : goal.returns-in_default
+returns-in_default c = let a = c.args in sym (wanted-refused a.most a.k (inl (omega arith)))
