@@ -1,4 +1,6 @@
 // The byte-correcting code with bytes of three bits: seven data bytes, three check bytes.
+#![tactic(auto)]
+
 ghost use Rattle.std.specs.Prelude.{◌≡◌, ◌<◌};
 ghost use Rattle.byte_code.specs.Reading as specs;
 

@@ -1,5 +1,7 @@
 // Words of ten bytes of three bits: the matrix T, and the three parts of a word's syndrome. A vector of three bits is a number below 8, its
 // lowest bit the top of the vector.
+#![tactic(auto)]
+
 ghost use Rattle.std.specs.Prelude.{◌≡◌, ◌≤◌, ◌<◌};
 ghost use Rattle.byte_parts.specs.Vectors as vectors;
 ghost use Rattle.byte_parts.specs.Parts as parts;

@@ -1,4 +1,6 @@
 // A sheet for each station: three figures as floats, and whether the share of words mended is within the house limit.
+#![tactic(auto)]
+
 ghost use Rattle.std.specs.Prelude.{◌≡◌};
 ghost use Rattle.std.specs.Float.Ieee.Scale as scale;
 ghost use Rattle.sheet.specs.Sheets as specs;
