@@ -1,5 +1,7 @@
 // The judges of both families once more, quick to accept: where each column finds itself at its guessed place, no two are equal. Where
 // anything is amiss the plain judge speaks, so that a refusal is its own.
+#![tactic(auto)]
+
 ghost use Rattle.std.specs.Prelude.{◌≡◌, ◌-◌, ◌≤◌, ◌<◌, length};
 ghost use Rattle.guess.specs.Guess.{Guessed};
 ghost use Rattle.judge.specs.Judge.{judge_in};
