@@ -1,4 +1,6 @@
 // The maker's order: the columns with an odd count of ones from three on, the fewer ones first, put into places.
+#![tactic(auto)]
+
 ghost use Rattle.std.specs.Prelude.{◌≡◌, ◌+◌, ◌≤◌, min, length};
 ghost use Rattle.order.specs.Order.{with_ones, in_order, put_from};
 
