@@ -1,4 +1,6 @@
 // What may be asked of a pass over a run of an image, over records of any edition: the refusals before a record is looked at.
+#![tactic(auto)]
+
 ghost use Rattle.std.specs.Prelude.{◌≡◌, ◌≤◌};
 ghost use Rattle.asked.specs.Pass.{pass_over, state_of, no_image, room_in, last_stamp, wrong_in};
 

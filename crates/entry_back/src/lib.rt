@@ -1,4 +1,6 @@
 // One entry of a journal put back: where its record holds the entry's bytes as left, its bytes as read are written.
+#![tactic(auto)]
+
 ghost use Rattle.std.specs.Prelude.{◌≡◌, cond, ◌*◌, ◌≤◌, ◌<◌, length};
 ghost use Rattle.record.specs.Layout.{entry_size, entry_in};
 ghost use Rattle.entry_back.specs.Entry.{same_bytes, matches, undone, step_of, stepped_image};

@@ -1,4 +1,6 @@
 // The list of explanations by the syndrome, over any list of columns.
+#![tactic(auto)]
+
 ghost use Rattle.std.specs.Prelude.{◌≡◌, ◌*◌, ◌≤◌, ◌<◌, length};
 ghost use Rattle.record.specs.Run.{over};
 ghost use Rattle.listing.specs.Sets.{bytes_for, written};
