@@ -1,4 +1,6 @@
 // A reader of a lent journal, from its end to its start: it holds the journal, and the place that it has come to.
+#![tactic(auto)]
+
 ghost use Rattle.std.specs.Prelude.{◌≡◌, ◌*◌, ◌≤◌, ◌<◌, length};
 ghost use Rattle.record.specs.Layout.{entry_size};
 ghost use Rattle.entry_back.specs.Entry.{step_of, stepped_image};
