@@ -1,4 +1,6 @@
 // The put-back: an image as it was read, from its journal.
+#![tactic(auto)]
+
 ghost use Rattle.std.specs.Prelude.{◌≡◌, ◌≤◌};
 ghost use Rattle.asked.specs.Pass.{room_in};
 ghost use Rattle.put_back.specs.Back.{refused_back, returned_by, back_from, put_back_of};
