@@ -1,4 +1,6 @@
 // The text of the program: an entry's line, the tally's line, a refusal.
+#![tactic(auto)]
+
 ghost use Rattle.std.specs.Prelude.{◌≡◌, ◌+◌, ◌*◌, ◌/◌, ◌≤◌, length};
 ghost use Rattle.record.specs.Layout.{data_size, entry_size};
 ghost use Rattle.record.specs.Run.{over};

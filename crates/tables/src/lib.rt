@@ -1,4 +1,6 @@
 // Byte tables: what each value of a record's bytes, or of their halves, adds to its syndrome; and the syndrome by a look for each.
+#![tactic(auto)]
+
 ghost use Rattle.std.specs.Prelude.{◌≡◌, ◌++◌, ℕ, ◌+◌, ◌*◌, ◌/◌, ◌%◌, ◌^◌, ◌≤◌, ◌<◌, length, get_or, take, drop};
 ghost use Rattle.std.specs.Int.Bits.{bit_xor};
 ghost use Rattle.columns.specs.Mix.{column, mix};
