@@ -11,20 +11,6 @@ use Rattle.entry_back.specs.Entry.{matches, undone}
 use Rattle.put_back.specs.Back.{back_from}
 use Rattle.put_back.proofs.Backwards.{back_step, back-stop, went, stood, returned}
 use Rattle.put_back.proofs.back_in.Goals as goal
-use Rattle.put_back.proofs.back_in.Lts as lts
-use Rattle.put_back.proofs.back_in.Reads as reads
-use Rattle.put_back.proofs.back_in.Tie as tie
-
--- what is known at a place of the code
-abbrev At-loop-place : Type 0
-At-loop-place = lts.At-loop tie.the-claims reads.Pre reads.Post goal.the-invariant-loop-place goal.the-decreases-loop-place tie.handed_clauses
-
-abbrev Start : Type 0
-Start = lts.Start tie.the-claims reads.Pre reads.Post goal.the-invariant-loop-place goal.the-decreases-loop-place tie.handed_clauses
-
--- the arguments, from the loop's head
-abbrev start : At-loop-place → Start
-start l = l.before.before.before
 
 pub loop-place-init : goal.loop-place-init
 loop-place-init c =
@@ -33,8 +19,12 @@ loop-place-init c =
 
 pub step_through-requires : goal.step_through-requires
 step_through-requires c =
-    let l = c.before.before.before in
-    let a = (start l).args in record { d_bound = (start l).requires.d_bound; place_nonzero = omega arith; d_in_bounds = whole-fits (entry_size a.d) (length a.journal.now) l.loop-place.place (omega (arith, (start l).requires.used_bound, l.loop-place.invariant.0)) }
+    let a = c.args in
+    let l = c.loop-place in record {
+      d_bound = c.requires.d_bound;
+      place_nonzero = omega arith;
+      d_in_bounds = whole-fits (entry_size a.d) (length a.journal.now) l.place (omega (arith, c.requires.used_bound, l.invariant.0));
+    }
 
 -- where the step went back: the entry before the place matches, and the next place is one less
 back : (c : goal.In-Back) → let a = c.args in
