@@ -1,23 +1,17 @@
 -- What each verdict is answered. Assumes nothing.
 use mathlib.Core.Path.{◌≡◌, refl}
-use mathlib.Core.List.{List, [], ◌∷◌}
 use Prim.Native.Nat.{ℕ}
-use types.Run.{OneOf, miss}
-use denote.Enum.Declared.{tag_of}
-use Rattle.verdict.specs.contracts.Verdict.{the_type}
+use Rattle.std.proofs.Common.{◌≢◌}
 use Rattle.word.specs.declared.Word.{Word}
 use Rattle.verdict.specs.declared.Verdict.{Verdict}
 use Rattle.verdict.specs.declared.Verdict.TheVariants.{Clean, Data, Check, Even, Odd, Stray}
 use Rattle.reading.specs.Reading.{given_reading, reading_by}
 
 -- every verdict but stray is an answer
-abbrev pub answered : List ℕ
-answered = 0 ∷ 1 ∷ 2 ∷ 3 ∷ 4 ∷ []
-
-pub reading_given : (v : Verdict) (s k : ℕ) (w : Word) → OneOf answered (tag_of the_type v) → reading_by v s k w ≡ given_reading v s k w
+pub reading_given : (v : Verdict) (s k : ℕ) (w : Word) → v ≢ Stray → reading_by v s k w ≡ given_reading v s k w
 reading_given Clean s k w h = refl
 reading_given (Data p) s k w h = refl
 reading_given (Check p) s k w h = refl
 reading_given Even s k w h = refl
 reading_given Odd s k w h = refl
-reading_given Stray s k w h = absurd (miss answered 5 tt h)
+reading_given Stray s k w h = absurd (h refl)

@@ -1,4 +1,6 @@
 // Reading one word, of up to 128 data bits, under an opened code.
+#![tactic(auto)]
+
 ghost use Rattle.std.specs.Prelude.{◌≡◌, ◌≤◌};
 ghost use Rattle.code.specs.Opened.{Laid};
 ghost use Rattle.verdict.specs.Places.{NamesPlace};

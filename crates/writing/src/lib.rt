@@ -1,4 +1,6 @@
 // Writing one word, of up to 128 data bits, under an opened code.
+#![tactic(auto)]
+
 ghost use Rattle.std.specs.Prelude.{◌≡◌, ◌≤◌, length};
 ghost use Rattle.code.specs.Opened.{Laid};
 ghost use Rattle.word.specs.Word.{joined};
