@@ -1,4 +1,6 @@
 // The maker: a code from k and r alone, whose columns have as few ones as can be.
+#![tactic(auto)]
+
 ghost use Rattle.std.specs.Prelude.{◌≡◌, length, replicate};
 ghost use Rattle.make.specs.Made.{make_number, places_by, make_of, make_wide};
 
