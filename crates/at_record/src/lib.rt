@@ -1,4 +1,6 @@
 // What a pass does at one record: the verdict on it, mending, and its entry.
+#![tactic(auto)]
+
 ghost use Rattle.std.specs.Prelude.{◌≡◌, ◌≤◌, length};
 ghost use Rattle.record.specs.Layout.{record_size, entry_size, entry_bytes};
 ghost use Rattle.verdict.specs.Places.{NamesPlace};
