@@ -1,27 +1,21 @@
 -- The answers of the judge by cases, and a code's columns with no single ones behind them. Assumes nothing.
 use mathlib.Core.Path.{◌≡◌, refl}
-use mathlib.Core.List.{List, [], ◌∷◌, append-nil}
+use mathlib.Core.Logic.{◌≢◌}
+use mathlib.Core.List.{List, append-nil}
 use Prim.Native.Nat.{ℕ}
-use types.Run.{OneOf, miss}
-use denote.Enum.Declared.{tag_of}
 use Rattle.columns.specs.Mix.{singles, singles_from}
 use Rattle.code.specs.declared.Standing.TheVariants as standing
 use Rattle.judge.specs.Rule.{matrix}
 use Rattle.code.specs.Opened.{closed, opened_by}
 use Rattle.code.proofs.Laid.{refused_no_acceptance}
-use Rattle.row_judge.specs.contracts.JudgedRows.{the_type}
 use Rattle.row_judge.specs.declared.JudgedRows.{JudgedRows}
 use Rattle.row_judge.specs.declared.JudgedRows.TheVariants.{Accepted, NoData, NoChecks, TooWide, NoRows, Repeated, NotTriangular, EvenColumn, Leftover}
 use Rattle.rows.specs.Opened.{standing_of_rows}
 
--- an answer that is no acceptance, as the else of `let JudgedRows::Accepted = v else { .. }` knows it
-abbrev refusals : List ℕ
-refusals = 1 ∷ 2 ∷ 3 ∷ 4 ∷ 5 ∷ 6 ∷ 7 ∷ 8 ∷ []
-
 -- a refused code keeps nothing
-pub closes : (v : JudgedRows) (cs : List ℕ) (k rows : ℕ) → OneOf refusals (tag_of the_type v)
+pub closes : (v : JudgedRows) (cs : List ℕ) (k rows : ℕ) → v ≢ Accepted
     → closed (standing_of_rows v) ≡ opened_by (standing_of_rows v) cs k rows
-closes Accepted cs k rows h = absurd (miss refusals 0 tt h)
+closes Accepted cs k rows h = absurd (h refl)
 closes NoData cs k rows h = refl
 closes NoChecks cs k rows h = refl
 closes (TooWide i) cs k rows h = refl

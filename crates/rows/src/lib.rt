@@ -1,4 +1,6 @@
 // Codes with a chosen set of rows (02's request 109), and how they are opened.
+#![tactic(auto)]
+
 ghost use Rattle.std.specs.Prelude.{◌≡◌, ◌-◌, ◌≤◌, length};
 ghost use Rattle.code.specs.Opened.{Laid};
 ghost use Rattle.rows.specs.Opened.{standing_of_rows, opened_rows_in, opened_rows, opened_wide_rows};
