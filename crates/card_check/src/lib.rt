@@ -1,4 +1,6 @@
 // The card check of an opened code.
+#![tactic(auto)]
+
 ghost use Rattle.std.specs.Prelude.{◌≡◌, ◌≤◌, length};
 ghost use Rattle.code.specs.Opened.{Laid};
 ghost use Rattle.card_check.specs.Checking.{refused_cards, carded_in, carded_of};
