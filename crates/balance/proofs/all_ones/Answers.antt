@@ -6,14 +6,14 @@ use Rattle.balance.proofs.all_ones.Goals as goal
 pub overflow_add-n : goal.overflow_add-n
 overflow_add-n c =
     let a = c.args in
-    omega (arith, ones-le 16 _ (c.shared_slice_known-in-loop-i-1.given c.loop-i.i).fits)
+    omega (arith, ones-le 16 _ (c.type_inv.columns c.loop-i.i).fits)
 
 pub loop-i-preserved : goal.loop-i-preserved
 loop-i-preserved c =
     let a = c.args in
     omega (
       arith,
-      ones-le 16 _ (c.shared_slice_known-in-loop-i-1.given c.loop-i.i).fits,
+      ones-le 16 _ (c.type_inv.columns c.loop-i.i).fits,
       sum_step ones a.columns.now c.loop-i.i (omega arith),
     )
 
