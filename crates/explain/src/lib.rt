@@ -1,4 +1,6 @@
 // The explanations of a word.
+#![tactic(auto)]
+
 ghost use Rattle.std.specs.Prelude.{◌≡◌};
 ghost use Rattle.code.specs.Opened.{Laid, SoundOpened};
 ghost use Rattle.explain.specs.Explanations.{refused_listing, explain_of};

@@ -1,4 +1,6 @@
 // The finder of bad places, from two reads after a pattern and its complement were written.
+#![tactic(auto)]
+
 ghost use Rattle.std.specs.Prelude.{◌≡◌, ◌+◌, ◌-◌, ◌^◌, ◌≤◌};
 ghost use Rattle.code.specs.Opened.{Laid};
 ghost use Rattle.word.specs.Word.{in_parts};

@@ -1,16 +1,13 @@
 -- The rows of `near_by`, and the first that was found. Assumes nothing.
 use mathlib.Core.Path.{◌≡◌, refl}
 use mathlib.Core.Logic.{◌≢◌}
-use mathlib.Core.List.{List, [], ◌∷◌}
+use mathlib.Core.List.{List}
 use Prim.Native.Nat.{ℕ, ◌≤◌, ◌<◌}
 use borrow.Author.Tests.{eq-eqb, ne_eqb, lt-ltb, le-ltb}
-use types.Run.{OneOf, miss}
-use denote.Enum.Declared.{tag_of}
 use lib.ListN.{length}
 use Rattle.columns.specs.Mix.{place_in}
 use Rattle.word.specs.declared.Word.{Word}
 use Rattle.word.specs.Word.{flipped_in}
-use Rattle.reach.specs.contracts.Reached.{the_type}
 use Rattle.reach.specs.declared.Reached.{Reached}
 use Rattle.reach.specs.declared.Reached.TheVariants.{Nothing, Proper}
 use Rattle.reach.specs.BySyndrome.{near_by, unless_reached}
@@ -35,6 +32,6 @@ module _ (cs : List ℕ) (k flips s : ℕ) (w : Word) where
       near-away h = simp (ne_eqb s 0 some, ne_eqb flips 0 spare, le-ltb (place_in cs s) (length cs) h)
 
 -- what was found is the answer
-pub found_first : (a b : Reached) → OneOf (1 ∷ []) (tag_of the_type a) → unless_reached a b ≡ a
-found_first Nothing b h = absurd (miss (1 ∷ []) 0 tt h)
+pub found_first : (a b : Reached) → a ≢ Nothing → unless_reached a b ≡ a
+found_first Nothing b h = absurd (h refl)
 found_first (Proper w) b h = refl

@@ -1,4 +1,6 @@
 // The bad places of a word as they are handed over, and the proper word within reach of them, found by syndromes.
+#![tactic(auto)]
+
 ghost use Rattle.std.specs.Prelude.{◌≡◌, false, ◌+◌, ◌≤◌, length};
 ghost use Rattle.columns.specs.Mix.{mix};
 ghost use Rattle.word.specs.Word.{as_number, stray_in};
