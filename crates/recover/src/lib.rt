@@ -1,4 +1,6 @@
 // The proper word that differs from a word as read in places known to be bad, and in few others.
+#![tactic(auto)]
+
 ghost use Rattle.std.specs.Prelude.{◌≡◌};
 ghost use Rattle.code.specs.Opened.{Laid, SoundOpened};
 ghost use Rattle.recover.specs.Recover.{refused_recovery, recovered_by, recover_of};
