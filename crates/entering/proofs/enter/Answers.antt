@@ -25,12 +25,12 @@ overflow_cast-finding-2 c =
 pub returns : goal.returns
 returns c =
     let a = c.args in
-    let bytes : AllBytes a.rec.now = λ i. omega (arith, c.type_inv.rec i) in
+    let bytes : AllBytes a.rec.now = search rules in
     let left = c.turn_of-turned.ensures.left a.rec.now bytes c.requires.rec_len in
     let head = c.put_head.ensures ∙ ap (λ x. head_bytes a.stamp a.n x.verdict x.place a.sight.syndrome) c.finding_of-finding.ensures in
     let put = c.put_left.ensures ∙ left in record {
       rec_after = c.turn_byte.ensures ∙ left;
-      after = three_parts_lem a.entry-1.now c.put_head.new.part c.put_record.new.part c.put_left.new.part head_size (length a.rec.now)
+      after = three_parts_lem a.entry.now c.put_head.new.head c.put_record.new.part c.put_left.new.part head_size (length a.rec.now)
           (ap length head ∙ length-head _ _ _ _ _) (ap length c.put_record.ensures)
           (ap length c.put_left.ensures ∙ length-set a.rec.now _ _) (search rules)
           ∙ (λ i. head i ++ (c.put_record.ensures i ++ put i));
