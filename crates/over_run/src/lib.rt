@@ -1,4 +1,6 @@
 // A run of records that is lent alone: the entries that it needs, and the pass over its records.
+#![tactic(auto)]
+
 ghost use Rattle.std.specs.Prelude.{◌≡◌};
 ghost use Rattle.record.specs.Layout.{in_bytes};
 ghost use Rattle.record.specs.Run.{over};
