@@ -126,7 +126,7 @@ module _ (o : Opened) (d : ℕ) (p : Pass) (s : State) (other : List ℕ) (long 
           (answer-14 o d p s' e (image_too i) (subst (λ n. (p.end < p.start) ⊎ (n / record_size d < p.end)) (sym long) h))
           (answer-14 o d p s e i h)
       go (Row.too_many e i r h) = refused 17 0 (answer-17 o d p s' e (image_too i) (run_too r) h) (answer-17 o d p s e i r h)
-      go (Row.goes_Back e i r n h) = refused 16 0 (answer-16 o d p s' e (image_too i) (run_too r) n h) (answer-16 o d p s e i r n h)
+      go (Row.goes_back e i r n h) = refused 16 0 (answer-16 o d p s' e (image_too i) (run_too r) n h) (answer-16 o d p s e i r n h)
       go (Row.no_room e q h) =
           refused 13 (needed_run f s.image p.start p.end)
           (answer-13 o d p s' e (askable_too q) (rw needed_too h) ∙ ap (λ m. refused_with 13 m s') needed_too)
