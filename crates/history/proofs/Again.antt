@@ -16,7 +16,7 @@ use Rattle.code.specs.declared.Opened.{Opened}
 use Rattle.code.specs.declared.Standing.TheVariants as standing
 use Rattle.at_record.specs.Outcome.{Reader}
 use Rattle.asked.specs.Pass.{Pass, State, room_in, last_stamp}
-use Rattle.pass.specs.Pass.{After, noted_run, needed_run, behind, reader_of, after_pass}
+use Rattle.pass.specs.Pass.{noted_run, needed_run, behind, reader_of, after_pass}
 use Rattle.asked.specs.Asked.{GoesBack, GoesOn, Askable}
 use Rattle.pass.proofs.Cases.{refused_with, done_with, pass_refused}
 use Rattle.pass.proofs.Answers.{answer_12, answer-14, answer-17, answer-16, answer-13, answer-done}
@@ -131,7 +131,7 @@ module _ (o : Opened) (d : ℕ) (p : Pass) (s : State) (other : List ℕ) (long 
       go (Row.no_run e i h) = stay 14 0 (λ z. omega arith) (answer-14 o d p s' e i h) (answer-14 o d p s e i h)
       go (Row.too_many e i r h) =
           stay 17 0 (λ z. omega arith) (answer-17 o d p s' e i r (omega (arith, h, room_too))) (answer-17 o d p s e i r h)
-      go (Row.goes_Back e i r n h) =
+      go (Row.goes_back e i r n h) =
           stay 16 0 (λ z. omega arith) (answer-16 o d p s' e i r (omega (arith, n, room_too)) (back_too h)) (answer-16 o d p s e i r n h)
       go (Row.no_room e q h) =
           stay 13 needed (λ z. omega arith)

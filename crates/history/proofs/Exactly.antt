@@ -4,7 +4,7 @@ use mathlib.Core.Path.{◌≡◌, refl, sym, ap, subst, ◌∙◌}
 use mathlib.Core.Bool.{Bool, true, false, true≢false}
 use mathlib.Core.Logic.{◌≢◌, ◌⊎◌, ◌↔◌, inl, inr}
 use mathlib.Core.List.{List}
-use Prim.Native.Nat.{ℕ, zero, suc, ◌+◌, ◌-◌, ◌*◌, ◌/◌, ◌≤◌, ◌<◌}
+use Prim.Native.Nat.{ℕ, zero, suc, ◌+◌, ◌-◌, ◌*◌, ◌≤◌, ◌<◌}
 use native.Mathlib.Nat.{add-zero, zero-add, sub-zero, sub_self}
 use native.Mathlib.Omega.{arith}
 use borrow.Author.Tests.{ltb-true}
@@ -21,7 +21,7 @@ use Rattle.asked.specs.Pass.{room_in}
 use Rattle.entry_back.specs.Entry.{same_bytes, matches, undone}
 use Rattle.entry_back.proofs.Matching.{inside}
 use Rattle.put_back.specs.declared.PutBack.{PutBack}
-use Rattle.put_back.specs.Back.{Back, back_from, Returned, returned_by}
+use Rattle.put_back.specs.Back.{back_from, Returned, returned_by}
 use Rattle.put_back.proofs.Backwards.{back_step, back-stop}
 use Rattle.history.specs.History.{Matches, from_last, last_back, LastMatch, StopsAt}
 use Rattle.history.proofs.Putting.{same_bytes_lem, same_list, length_put, others_stay}

@@ -19,7 +19,7 @@ use Rattle.passes.proofs.Rows.{Ended, ended}
 use Rattle.passes.proofs.Facts.{asked, in_use_after, length_image, length_journal}
 use Rattle.passes.proofs.Alike.{same_image}
 use Rattle.passes.proofs.Stamps.{Known, refused_stays, used-after}
-use Rattle.put_back.specs.Back.{Back, back_from, kept_by, returned_by, put_back_of}
+use Rattle.put_back.specs.Back.{back_from, returned_by, put_back_of}
 use Rattle.put_back.proofs.Answers.{back_none, back-all}
 use Rattle.history.proofs.Undone.{AllKnown, steps_restore}
 

@@ -1,7 +1,6 @@
 -- Facts of each element and of each two, and what another order keeps. Assumes nothing.
 use Prim.{tt}
 use mathlib.Core.List.{List, [], ◌∷◌, ◌++◌, map}
-use Prim.Native.Nat.{◌+◌}
 use Rattle.orders.specs.Lists.{Each, EachTwo, Rearranged, none, keep, swap, next}
 
 module _ {X : Type 0} where
