@@ -2,7 +2,7 @@
 use mathlib.Core.Path.{◌≡◌, sym, ap, ◌∙◌}
 use mathlib.Core.Bool.{false}
 use mathlib.Core.List.{List}
-use Prim.Native.Nat.{ℕ, ◌≤◌}
+use Prim.Native.Nat.{ℕ}
 use native.Mathlib.Omega.{arith}
 use lib.Bits.{bit_xor}
 use lib.ListN.{length, take, drop}
@@ -10,7 +10,7 @@ use Rattle.columns.specs.Mix.{mix}
 use Rattle.word.specs.Word.{joined, as_number, stray_in}
 use Rattle.word.proofs.Halves.{mix-cut}
 use Rattle.word.proofs.Strays.{data_fits}
-use Rattle.record.specs.Layout.{record_size, data_in, check_in}
+use Rattle.record.specs.Layout.{record_size, check_in}
 use Rattle.runs.proofs.Records.{data_halves}
 use Rattle.at_record.specs.Outcome.{Reader, Ready, word_in}
 use Rattle.by_list.specs.Given.{mixed_of}

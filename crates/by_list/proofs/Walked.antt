@@ -20,8 +20,6 @@ use Rattle.runs.proofs.Tallies.{tally_same, counted_below, count-le}
 use Rattle.runs.proofs.Journal.{entries-clean}
 use Rattle.at_record.specs.Outcome.{Reader, verdict_of, entry_of}
 use Rattle.over_run.proofs.Turns.{left_to, entries_to, count_to, left-clean, entries_rise}
-use Rattle.marks.specs.Marks.{Due}
-use Rattle.by_list.specs.Given.{mixed_of}
 
 -- the count of the verdict v when the records before `at` are passed: the clean ones are all counted at the start
 abbrev pub count_at : ℕ → (List ℕ → ℕ) → List ℕ → ℕ → ℕ → ℕ → ℕ

@@ -1,4 +1,6 @@
 // The second walk of the quick pass: the records that the list names are mended and entered.
+#![tactic(auto)]
+
 ghost use Rattle.std.specs.Prelude.{◌≡◌, length};
 ghost use Rattle.record.specs.Layout.{record_size, in_bytes};
 ghost use Rattle.record.specs.Run.{over};

@@ -1,4 +1,6 @@
 // A listed record is entered and mended: what at_record's `enter` does, without a loop.
+#![tactic(auto)]
+
 ghost use Rattle.std.specs.Prelude.{◌≡◌, ◌+◌, ◌*◌, ◌/◌, ◌%◌, ◌^◌, ◌≤◌, ◌<◌, length};
 ghost use Rattle.record.specs.Bytes.{Put};
 ghost use Rattle.record.specs.Layout.{record_size, entry_size, entry_bytes};

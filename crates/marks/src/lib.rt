@@ -1,4 +1,6 @@
 // The first walk of the quick pass: which records are not clean, with what the tables say of them.
+#![tactic(auto)]
+
 ghost use Rattle.std.specs.Prelude.{◌≡◌, ◌+◌, ◌-◌, ◌≤◌, ◌<◌, length};
 ghost use Rattle.record.specs.Layout.{record_size, records_in};
 ghost use Rattle.record.specs.Journal.{needed_of};
