@@ -438,7 +438,7 @@ CardFlagged code =
 
 -- ---- the pass
 
--- A pass refuses in this order: the code's number and place; 12, 14, 17, 16, 13, told the entries needed. A refused pass has an all_zero_lem
+-- A pass refuses in this order: the code's number and place; 12, 14, 17, 16, 13, told the entries needed. A refused pass has an all-zero
 -- answer but for number and told, and changes no byte of image or journal. A done one hands back the count in use afterwards.
 abbrev pub PassRefuses : Given → Type 0
 PassRefuses code =
