@@ -83,7 +83,7 @@ module _ (opened : Opened) (image journal : List ℕ) (answer : PassAnswer) (is 
       go (Row.no-image f h) = told _ (answer_12 o data_size p s f h)
       go (Row.no_run f i h) = ⊎_elim (λ (x : 0 < 0). absurd (omega arith)) (λ (x : records_in data_size image < 0). absurd (omega arith)) h
       go (Row.too_many f i r h) = absurd (omega arith)
-      go (Row.goes_Back f i r m h) = absurd (omega (arith, h.some))
+      go (Row.goes_back f i r m h) = absurd (omega (arith, h.some))
       go (Row.no_room f q h) = absurd (omega arith)
       go (Row.done f q h) = absurd (n (told _ (answer-done o data_size p s f q h)))
 

@@ -1,4 +1,6 @@
 // The program: reads an image on standard input, passes over it with the sample code, run by run, and prints entries and tally.
+#![tactic(auto)]
+
 ghost use Rattle.std.specs.Prelude.{◌≡◌, ◌+◌, ◌*◌, ◌≤◌, ◌<◌, length};
 ghost use Rattle.record.specs.Layout.{data_size, image_limit, records_in};
 ghost use Rattle.record.specs.Run.{over};
