@@ -1,4 +1,6 @@
 // The questions of codes of Hsiao's family: each code is opened, and the question asked of what it is opened to.
+#![tactic(auto)]
+
 ghost use Rattle.std.specs.Prelude.{◌≡◌};
 ghost use Rattle.code.specs.Opened.{judgement_in, opened_of};
 ghost use Rattle.balance.specs.Balance.{balances_of};

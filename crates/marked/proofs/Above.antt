@@ -1,7 +1,6 @@
 -- Stray bits by masks: a word has none exactly where the masks of its three parts find none. Assumes nothing.
 use mathlib.Core.Path.{◌≡◌, refl, sym, ap, ap₂, ◌∙◌}
 use mathlib.Core.Bool.{Bool, true, false, ◌||◌, true≢false}
-use mathlib.Core.Logic.{◌⊎◌}
 use Prim.Native.Nat.{ℕ, zero, suc, ◌+◌, ◌-◌, ◌*◌, ◌/◌, ◌%◌, ◌^◌, ◌≤◌, ◌<◌}
 use native.Mathlib.Nat.{suc-mul, zero-mul, div-eq_of_lt, mod-eq_of_lt, mod-lt}
 use native.Mathlib.Decide.{dec_lt}

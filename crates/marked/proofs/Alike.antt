@@ -2,9 +2,8 @@
 -- Assumes nothing.
 use mathlib.Core.Path.{◌≡◌, refl, sym, ap, ◌∙◌}
 use mathlib.Core.Bool.{Bool, true, false, cond}
-use mathlib.Core.Logic.{◌≢◌}
 use mathlib.Core.List.{List}
-use Prim.Native.Nat.{ℕ, zero, suc, ◌+◌, ◌-◌, ◌*◌, ◌%◌, ◌^◌, ◌≤◌, ◌<◌}
+use Prim.Native.Nat.{ℕ, zero, suc, ◌-◌, ◌*◌, ◌≤◌, ◌<◌}
 use native.Mathlib.Omega.{arith}
 use borrow.Author.Tests.{eq-eqb, ne_eqb, eqb-true}
 use lib.Dec.{eqb, ltb}
@@ -18,15 +17,15 @@ use Rattle.word.specs.Verdicts.{read_in}
 use Rattle.verdict.proofs.Rows.{on_clean}
 use Rattle.word.proofs.Strays.{in_verdict}
 use Rattle.record.specs.Bytes.{byte_span, AllBytes}
-use Rattle.record.specs.Layout.{record_size, records_in}
+use Rattle.record.specs.Layout.{record_size}
 use Rattle.record.specs.Run.{record_at}
 use Rattle.record.specs.Journal.{unclean, needed_of}
-use Rattle.record.proofs.Bytes.{number_fits, bytes_drop}
+use Rattle.record.proofs.Bytes.{number_fits}
 use Rattle.runs.proofs.Numbers.{bytes_take, bytes-part}
 use Rattle.runs.proofs.Run.{record_length, fits_less, sum_alike}
 use Rattle.at_record.specs.Outcome.{Reader, Ready, word_in, seen, verdict_of}
 use Rattle.tables.specs.Tables.{tables_of, lookups}
-use Rattle.marks.specs.Marks.{stray_bits, mark_of, Due, ListedBy}
+use Rattle.marks.specs.Marks.{stray_bits, mark_of, ListedBy}
 use Rattle.by_list.specs.Given.{mixed_of}
 use Rattle.by_list.proofs.Mixed.{mixed_syndrome}
 use Rattle.marked.proofs.Looked.{looked_mixed}

@@ -1,5 +1,5 @@
 -- What the two walks of the quick pass are given. Assumes nothing.
-use Rattle.std.specs.Prelude.{◌≡◌, List, ℕ, ◌+◌, ◌≤◌, length}
+use Rattle.std.specs.Prelude.{◌≡◌, List, ℕ, ◌≤◌, length}
 use Rattle.record.specs.Layout.{record_size, records_in}
 use Rattle.at_record.specs.Outcome.{Reader, Ready, verdict_of}
 use Rattle.over_run.specs.Whole.{needed_by, RunFits}

@@ -1,4 +1,6 @@
 // The quick pass: the plain one's answers, by tables, a list of the records that are not clean, and guessed places.
+#![tactic(auto)]
+
 ghost use Rattle.std.specs.Prelude.{◌≡◌, ◌*◌, ◌-◌, ◌≤◌, length};
 ghost use Rattle.record.specs.Layout.{record_size, in_bytes};
 ghost use Rattle.record.specs.Run.{over};
@@ -9,8 +11,7 @@ ghost use Rattle.asked.specs.Pass.{pass_over, state_of, wrong_in};
 ghost use Rattle.pass.specs.Pass.{pass_in, after_pass};
 ghost use Rattle.tables.specs.Tables.{values_in};
 ghost use Rattle.guess.specs.Guess.{Guessed};
-ghost use Rattle.by_list.specs.Given.{ListedIn, ListFits};
-ghost use Rattle.quick.specs.Walks.{FirstFits};
+ghost use Rattle.quick.specs.Walks.{FirstFits, ListedIn, Listing};
 
 use code::{Opened, Refusal, Standing};
 use guess::SLOTS;
@@ -105,7 +106,7 @@ fn second_walk(
     journal: &mut [u8],
     stamp: u32,
 ) -> Tally
-    requires { ListFits (reader columns.now k rows d) list.now bad run.old first journal.old }
+    requires { Listing (reader columns.now k rows d) list.now bad run.old first journal.old }
     ensures value { result ≡ tally_in (reader columns.now k rows d) run.old }
     ensures run_after { run.new ≡ left_in (reader columns.now k rows d) run.old }
     ensures journal_after { journal.new

@@ -1,4 +1,6 @@
 // The quick pass under codes of every family and edition: each is opened, and the pass asked of what it is opened to.
+#![tactic(auto)]
+
 ghost use Rattle.std.specs.Prelude.{◌≡◌};
 ghost use Rattle.code.specs.Opened.{opened_of, opened_wide};
 ghost use Rattle.record.specs.Layout.{data_size, wide_size};

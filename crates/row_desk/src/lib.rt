@@ -1,4 +1,6 @@
 // The questions of codes with a chosen set of rows: each code is opened, and the question asked of what it is opened to.
+#![tactic(auto)]
+
 ghost use Rattle.std.specs.Prelude.{◌≡◌};
 ghost use Rattle.code.specs.Opened.{judgement_in};
 ghost use Rattle.balance.specs.Balance.{balances_of};
