@@ -368,7 +368,7 @@ TallyCounts =
 -- A pass refuses in this order: the code's number and place; 12 for an image whose length is no multiple of 10 or over 65,530; 14 for a
 -- run whose start is above its end or whose end is above the number of records; 17 where the count in use is over the journal's room; 16
 -- where an entry is in use and the stamp is below the last one's; 13, told the entries needed, where the room that is left is for fewer.
--- A refused pass has an all_zero_lem answer but for number and told, and changes no byte of image or journal. A done one hands back the count
+-- A refused pass has an all-zero answer but for number and told, and changes no byte of image or journal. A done one hands back the count
 -- in use afterwards.
 abbrev pub PassRefuses : Type 0
 PassRefuses =
