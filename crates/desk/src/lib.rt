@@ -1,4 +1,6 @@
 // What a caller outside links: one function for each question, total, each answer a struct by value.
+#![tactic(auto)]
+
 ghost use Rattle.std.specs.Prelude.{◌≡◌};
 ghost use Rattle.asked.specs.Pass.{pass_over, state_of};
 ghost use Rattle.desk.specs.Answers.{version, check_bits_of, judgement_of, rows_of, written_of, read_of, narrowed, explained_of, cards_of, passed_of};
