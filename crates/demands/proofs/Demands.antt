@@ -174,7 +174,7 @@ pass_in-two = passes.pass_in-two
 -- ---- any order of passes
 
 pub apart_exactly : demands.ApartExactly
-apart_exactly = orders.apart-by_ends
+apart_exactly = orders.apart_by_ends
 
 pub order_done : demands.OrderDone
 order_done = orders.order_done
@@ -223,7 +223,7 @@ pub making_exactly : demands.MakingExactly
 making_exactly = making.making_exactly
 
 pub made_accepted : demands.MadeAccepted
-made_accepted = making.made_accepted-code
+made_accepted = making.made_accepted_code
 
 pub made_in_order : demands.MadeInOrder
 made_in_order = making.made_in_order
@@ -359,7 +359,7 @@ wide_answers = editions.wide_answers
 -- ---- codes with a chosen set of rows
 
 pub accepted_rows_exactly : of-rows.AcceptedRowsExactly
-accepted_rows_exactly = rows.accepted-rows_exactly
+accepted_rows_exactly = rows.accepted_rows_exactly
 
 pub judged_rows_exactly : of-rows.JudgedRowsExactly
 judged_rows_exactly = rows.judged_rows_exactly
@@ -368,13 +368,13 @@ pub rows_promised : of-rows.RowsPromised
 rows_promised = rows.rows_promised
 
 pub wide_rows_promised : of-rows.WideRowsPromised
-wide_rows_promised = rows.wide-rows_promised
+wide_rows_promised = rows.wide_rows_promised
 
 pub rows_answers : of-rows.RowsAnswers
 rows_answers = rows.rows_answers
 
 pub wide_rows_answers : of-rows.WideRowsAnswers
-wide_rows_answers = rows.wide-rows_answers
+wide_rows_answers = rows.wide_rows_answers
 
 pub same_answers : of-rows.SameAnswers
 same_answers = rows.same_answers

@@ -45,7 +45,7 @@ making_exactly k r =
 
 pub made_accepted_code : demands.MadeAccepted
 made_accepted_code k r e =
-    let y = of_any.made_accepted-code ten_bytes ten_known k r (number_is k r ∙ e) in
+    let y = of_any.made_accepted_code ten_bytes ten_known k r (number_is k r ∙ e) in
     let x = of_made k r (λ (made : HsiaoCode). promises.MadeFor made k r) y in
     (accepted-back (made_of k r).code x.0, x.1, x.2, x.3, x.4)
 

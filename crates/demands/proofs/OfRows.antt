@@ -32,7 +32,7 @@ use Rattle.demands.specs.Rows.{chosen_ten, chosen_wide}
 use Rattle.demands.proofs.OfEditions.{of_any}
 
 pub accepted_rows_exactly : demands.AcceptedRowsExactly
-accepted_rows_exactly = (λ code. judge.accepted-rows_exactly (chosen_ten code), λ code. judge.accepted-rows_exactly (chosen_wide code))
+accepted_rows_exactly = (λ code. judge.accepted_rows_exactly (chosen_ten code), λ code. judge.accepted_rows_exactly (chosen_wide code))
 
 pub judged_rows_exactly : demands.JudgedRowsExactly
 judged_rows_exactly = (λ code. judge.judged_rows_exactly (chosen_ten code), λ code. judge.judged_rows_exactly (chosen_wide code))
