@@ -12,7 +12,7 @@ use Rattle.word.specs.declared.Word.{Word}
 use Rattle.word.specs.Word.{data_of, check_of, in_parts}
 use Rattle.reading.specs.Reading.{reading_of}
 use Rattle.mending.proofs.Parts.{data_fits}
-use Rattle.editions.specs.Given as goal
+use Rattle.editions.specs.Given as of_any
 use Rattle.editions.proofs.Codes.{limits_of}
 use Rattle.desk.specs.declared.ReadWord.{ReadWord}
 use Rattle.desk.specs.Answers.{word_with, narrowed}
@@ -20,28 +20,28 @@ use Rattle.demands.specs.Definitions.{Handed, Accepted, read, HandsBack, Clean}
 use Rattle.demands.specs.Editions.{narrow}
 use Rattle.demands.proofs.OfEditions.{ten_known}
 
-pub handed : (code : Code) → Handed code → goal.Handed (narrow code)
+pub handed : (code : Code) → Handed code → of_any.Handed (narrow code)
 handed code h = record { places = h; known = ten_known }
 
-pub accepted : (code : Code) → Accepted code → goal.Accepted (narrow code)
+pub accepted : (code : Code) → Accepted code → of_any.Accepted (narrow code)
 accepted code a = record { handed = handed code a.handed; number = a.number }
 
 -- and back
-pub accepted-back : (code : Code) → goal.Accepted (narrow code) → Accepted code
+pub accepted-back : (code : Code) → of_any.Accepted (narrow code) → Accepted code
 accepted-back code a = record { handed = a.handed.places; number = a.number }
 
 -- ---- a word in its parts
 
 -- a stray bit
 pub strays : (code : Code) (low check : ℕ) → (2 ^ code.k ≤ low) ⊎ (2 ^ code.r ≤ check)
-    → goal.Strays (narrow code) (word_with low check)
+    → of_any.Strays (narrow code) (word_with low check)
 strays code low check h = rw (add-zero low) h
 
 module _ (code : Code) (a : Accepted code) where
   few : code.k ≤ 64
   few = (limits_of (narrow code) (accepted code a)).sized.few
 
-  pub fits : (low check : ℕ) → low < 2 ^ code.k → check < 2 ^ code.r → goal.Fits (narrow code) (word_with low check)
+  pub fits : (low check : ℕ) → low < 2 ^ code.k → check < 2 ^ code.r → of_any.Fits (narrow code) (word_with low check)
   fits low check l h = record {
     low_half = omega (arith, pow_mono {i = code.k} {j = 64} few);
     data_bits = rw (add-zero low) l;
@@ -63,25 +63,25 @@ module _ (code : Code) (a : Accepted code) where
       let high : (in_parts code.k w).high ≡ 0 = div-eq_of_lt (one_half w) in
       λ i. record { low = sym low i; high = sym high i; check = check_of code.k w }
 
-  pub read_is : (w : ℕ) → read code w ≡ narrowed (goal.read (narrow code) w)
+  pub read_is : (w : ℕ) → read code w ≡ narrowed (of_any.read (narrow code) w)
   read_is w = ap (λ (x : Word). narrowed (reading_of (opened_of code) x)) (parts_are w)
 
-  pub verdict-is : (w : ℕ) → (read code w).verdict ≡ (goal.read (narrow code) w).verdict
+  pub verdict-is : (w : ℕ) → (read code w).verdict ≡ (of_any.read (narrow code) w).verdict
   verdict-is w = ap (λ (r : ReadWord). r.verdict) (read_is w)
 
-  pub place_is : (w : ℕ) → (read code w).place ≡ (goal.read (narrow code) w).place
+  pub place_is : (w : ℕ) → (read code w).place ≡ (of_any.read (narrow code) w).place
   place_is w = ap (λ (r : ReadWord). r.place) (read_is w)
 
-  pub clean : (w : ℕ) → Clean code w → goal.Clean (narrow code) w
+  pub clean : (w : ℕ) → Clean code w → of_any.Clean (narrow code) w
   clean w c = record {
     number = sym (ap (λ (r : ReadWord). r.number) (read_is w)) ∙ c.number;
     verdict = sym (verdict-is w) ∙ c.verdict;
   }
 
-  pub clean_back : (w : ℕ) → goal.Clean (narrow code) w → Clean code w
+  pub clean_back : (w : ℕ) → of_any.Clean (narrow code) w → Clean code w
   clean_back w c = record { number = ap (λ (r : ReadWord). r.number) (read_is w) ∙ c.number; verdict = verdict-is w ∙ c.verdict }
 
-  pub hands : (w u : ℕ) → goal.HandsBack (narrow code) (goal.read (narrow code) w) u → HandsBack code (read code w) u
+  pub hands : (w u : ℕ) → of_any.HandsBack (narrow code) (of_any.read (narrow code) w) u → HandsBack code (read code w) u
   hands w u e = record {
     data_bits = ap (λ (r : ReadWord). r.«data») (read_is w) ∙ ap (λ (x : Word). x.low) e ∙ low-is u;
     check_bits = ap (λ (r : ReadWord). r.check) (read_is w) ∙ ap (λ (x : Word). x.check) e;

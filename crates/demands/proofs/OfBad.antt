@@ -12,7 +12,7 @@ use Rattle.word.specs.Word.{word_of, data_of, check_of}
 use Rattle.mending.proofs.Parts.{word_of_parts}
 use Rattle.recover.specs.Recover.{recover_of}
 use Rattle.finder.specs.Finder.{find_of}
-use Rattle.editions.specs.Given as goal
+use Rattle.editions.specs.Given as any
 use Rattle.editions.proofs.OfBad as of_any
 use Rattle.desk.specs.declared.ReadWord.{ReadWord}
 use Rattle.desk.specs.declared.Recovered.{Recovered}
@@ -25,14 +25,14 @@ use Rattle.demands.specs.Editions.{narrow}
 use Rattle.demands.proofs.Narrow.{accepted, strays, fits, low-is, parts_are, read_is, verdict-is, clean, clean_back}
 
 module _ (code : Code) (a : Accepted code) where
-  recover-is : (w : ℕ) (bad : List ℕ) → recover code w bad ≡ recovered_by (goal.recover (narrow code) w bad)
+  recover-is : (w : ℕ) (bad : List ℕ) → recover code w bad ≡ recovered_by (any.recover (narrow code) w bad)
   recover-is w bad = ap (λ (x : Word). recovered_by (recover_of (opened_of code) x bad)) (parts_are code a w)
 
-  given_is : (u : ℕ) → recovered_by (goal.given_back (narrow code) u) ≡ given_back code u
+  given_is : (u : ℕ) → recovered_by (any.given_back (narrow code) u) ≡ given_back code u
   given_is u = ap (λ (d : ℕ). record { number = 0; told = 0; «data» = d; check = check_of code.k u }) (low-is code a u)
 
   -- a word that is handed back by the one is handed back by the other
-  back : (w : ℕ) (bad : List ℕ) (u : ℕ) → goal.recover (narrow code) w bad ≡ goal.given_back (narrow code) u
+  back : (w : ℕ) (bad : List ℕ) (u : ℕ) → any.recover (narrow code) w bad ≡ any.given_back (narrow code) u
       → recover code w bad ≡ given_back code u
   back w bad u e = recover-is w bad ∙ ap recovered_by e ∙ given_is u
 
@@ -43,10 +43,10 @@ module _ (code : Code) (a : Accepted code) where
       ∙ ap₂ (word_of code.k) (ap (λ (x : Recovered). x.«data») e) (ap (λ (x : Recovered). x.check) e)
       ∙ word_of_parts code.k v
 
-  near : (w : ℕ) (bad : List ℕ) (u : ℕ) → Recoverable code w bad u → goal.Recoverable (narrow code) w bad u
+  near : (w : ℕ) (bad : List ℕ) (u : ℕ) → Recoverable code w bad u → any.Recoverable (narrow code) w bad u
   near w bad u x = record { fits = x.fits; clean = clean code a u x.clean; near = x.near }
 
-  near_back : (w : ℕ) (bad : List ℕ) (u : ℕ) → goal.Recoverable (narrow code) w bad u → Recoverable code w bad u
+  near_back : (w : ℕ) (bad : List ℕ) (u : ℕ) → any.Recoverable (narrow code) w bad u → Recoverable code w bad u
   near_back w bad u x = record { fits = x.fits; clean = clean_back code a u x.clean; near = x.near }
 
 pub recovering_refuses : demands.RecoveringRefuses
@@ -124,19 +124,19 @@ finding_refuses code low check low' check' =
 
 -- the word of ones in the answer, and its parts, are the same
 module _ (code : Code) (acc : Accepted code) (a b : ℕ) (ha : Unstrayed code a) (hb : Unstrayed code b) where
-  find_is : find_bad code a b ≡ bad_places_by (goal.find_bad (narrow code) a b)
+  find_is : find_bad code a b ≡ bad_places_by (any.find_bad (narrow code) a b)
   find_is = ap₂ (λ (x y : Word). bad_places_by (find_of (opened_of code) x y)) (parts_are code acc a) (parts_are code acc b)
 
-  in_parts_lem : ((find_bad code a b).«data» ≡ data_of code.k (goal.found_in (narrow code) a b))
-      × ((find_bad code a b).check ≡ check_of code.k (goal.found_in (narrow code) a b))
+  in_parts_lem : ((find_bad code a b).«data» ≡ data_of code.k (any.found_in (narrow code) a b))
+      × ((find_bad code a b).check ≡ check_of code.k (any.found_in (narrow code) a b))
   in_parts_lem =
       let e = of_any.found_in_parts (narrow code) (accepted code acc) a b ha hb in (
         ap (λ (f : BadPlaces). f.«data») find_is ∙ ap (λ (x : Word). x.low) e ∙ low-is code acc _,
         ap (λ (f : BadPlaces). f.check) find_is ∙ ap (λ (x : Word). x.check) e,
       )
 
-  found_same : found_in code a b ≡ goal.found_in (narrow code) a b
-  found_same = ap₂ (word_of code.k) in_parts_lem.0 in_parts_lem.1 ∙ word_of_parts code.k (goal.found_in (narrow code) a b)
+  found_same : found_in code a b ≡ any.found_in (narrow code) a b
+  found_same = ap₂ (word_of code.k) in_parts_lem.0 in_parts_lem.1 ∙ word_of_parts code.k (any.found_in (narrow code) a b)
 
 pub found_exactly : demands.FoundExactly
 found_exactly code acc a b ha hb p =

@@ -17,7 +17,7 @@ use Rattle.explain.specs.Explanations.{explain_of}
 use Rattle.card_check.specs.Checking.{carded_of}
 use Rattle.record.specs.Layout.{data_size, wide_size}
 use Rattle.pass.specs.Pass.{after_pass}
-use Rattle.editions.specs.Given as goal
+use Rattle.editions.specs.Given as of_any
 use Rattle.editions.specs.Given.{chosen_of}
 use Rattle.editions.proofs.Hsiao.{judged_of}
 use Rattle.editions.proofs.OfRows as judge
@@ -45,10 +45,10 @@ wide_rows_promised = of_any (λ (code : WideRowCode). chosen_of (chosen_wide cod
 
 -- ---- the exported answers
 
-opened_ten : (code : RowCode) → goal.opened (chosen_of (chosen_ten code)) ≡ opened_rows code
+opened_ten : (code : RowCode) → of_any.opened (chosen_of (chosen_ten code)) ≡ opened_rows code
 opened_ten code = judge.opened-chosen 64 code.columns code.n code.r code.rows
 
-opened_wide_lem : (code : WideRowCode) → goal.opened (chosen_of (chosen_wide code)) ≡ opened_wide_rows code
+opened_wide_lem : (code : WideRowCode) → of_any.opened (chosen_of (chosen_wide code)) ≡ opened_wide_rows code
 opened_wide_lem code = judge.opened-chosen 128 code.columns code.n code.r code.rows
 
 pub rows_answers : demands.RowsAnswers
@@ -83,7 +83,7 @@ wide_rows_answers = record {
 same_ten : (code : Code) → Accepted code → opened_rows (as_rows code) ≡ opened_of code
 same_ten code a = opened_same 64 code.columns code.k code.r a.handed (judged_of (narrow_code code) a.number)
 
-same_wide : (code : WideCode) → goal.Accepted (wide code) → opened_wide_rows (as_wide_rows code) ≡ opened_wide code
+same_wide : (code : WideCode) → of_any.Accepted (wide code) → opened_wide_rows (as_wide_rows code) ≡ opened_wide code
 same_wide code a = opened_same 128 code.columns code.k code.r a.handed.places (judged_of (wide_code code) a.number)
 
 pub same_answers : demands.SameAnswers

@@ -5,7 +5,7 @@ use Prim.Native.Nat.{ℕ, ◌<◌}
 use native.Mathlib.Nat.{add-zero}
 use Rattle.columns.specs.Mix.{flipped}
 use Rattle.code.specs.declared.Code.{Code}
-use Rattle.editions.specs.Given as goal
+use Rattle.editions.specs.Given as any
 use Rattle.editions.proofs.OfWords as of_any
 use Rattle.desk.specs.Answers.{word_with, narrowed}
 use Rattle.demands.specs.Definitions.{Accepted, places_of, read, HandsBack, Clean}
@@ -66,13 +66,13 @@ two_flips code a w fit c p q hp hq ne =
 
 -- a verdict of the one is that of the other
 verdict-or : (code : Code) (a : Accepted code) (w m n : ℕ) → ((read code w).verdict ≡ m) ⊎ ((read code w).verdict ≡ n)
-    → ((goal.read (narrow code) w).verdict ≡ m) ⊎ ((goal.read (narrow code) w).verdict ≡ n)
+    → ((any.read (narrow code) w).verdict ≡ m) ⊎ ((any.read (narrow code) w).verdict ≡ n)
 verdict-or code a w m n = ⊎_elim (λ e. inl (sym (verdict-is code a w) ∙ e)) (λ e. inr (sym (verdict-is code a w) ∙ e))
 
 pub mended_clean : demands.MendedClean
 mended_clean code a w fit h =
     let x = of_any.mended_clean (narrow code) (accepted code a) w fit (verdict-or code a w 1 2 h) in
-    let p = (goal.read (narrow code) w).place in
+    let p = (any.read (narrow code) w).place in
     subst (λ (q : ℕ). (q < places_of code) × HandsBack code (read code w) (flipped w q) × Clean code (flipped w q)) (sym (place_is code a w))
     (x.0, hands code a w (flipped w p) x.1, clean_back code a (flipped w p) x.2)
 

@@ -18,7 +18,7 @@ use Rattle.code.proofs.Laying.{laid_columns}
 use Rattle.sound.proofs.Hsiao as hub
 use Rattle.record.specs.Bytes.{AllBytes}
 use Rattle.at_record.specs.Outcome.{Held}
-use Rattle.editions.specs.Given as goal
+use Rattle.editions.specs.Given as words
 use Rattle.editions.specs.Given.{Given, standing_for, opened, set_of, matrix_of, data_columns, places_of, judgement_of, Refused, Handed}
 use Rattle.editions.proofs.Families.{zero-stands, limits_by, below_by, sound_by, front_by}
 
@@ -72,7 +72,7 @@ module _ (code : Given) (h : Handed code) where
   sound_accepted = sound_by code.edition.places code.columns code.k code.r code.family h.places
 
 -- an accepted code as it is handed about
-module _ (code : Given) (a : goal.Accepted code) where
+module _ (code : Given) (a : words.Accepted code) where
   pub limits_of : Limits code.edition.places code.k code.r
   limits_of = limits-kept code a.number
 
@@ -93,7 +93,7 @@ module _ (code : Given) (a : goal.Accepted code) where
       ap (λ (o : Opened). o.n - o.k) (opened-is code a.number) ∙ omega arith
 
 -- a code as it is handed about, accepted or refused: its opened code fits its edition's words and records
-module _ (code : Given) (handed : goal.Handed code) where
+module _ (code : Given) (handed : words.Handed code) where
   laid-within : Laid (opened code) × ((opened code).k ≤ code.edition.places)
   laid-within =
       laid_by code.edition.places handed.known.most (standing_for code) (matrix_of code) code.k (set_of code)
@@ -117,6 +117,6 @@ module _ (code : Given) (handed : goal.Handed code) where
   sound_opened = hub.sound_by (standing_for code) (matrix_of code) code.k (set_of code) code.r (sound_accepted code handed)
 
 -- bytes, or a single half
-pub bytes_of_lem : (code : Given) (image : List ℕ) → (judgement_of code).number ≡ 0 → goal.InBytes code image
+pub bytes_of_lem : (code : Given) (image : List ℕ) → (judgement_of code).number ≡ 0 → words.InBytes code image
     → ((opened code).k ≤ 64) ⊎ AllBytes image
 bytes_of_lem code image e = let k = data_is code e in ⊎_elim (λ (few : code.k ≤ 64). inl (omega arith)) (λ (b : AllBytes image). inr b)

@@ -15,7 +15,7 @@ use Rattle.orders.proofs.Lists.{same_order}
 use Rattle.orders.proofs.Order as order
 use Rattle.orders.proofs.Shared as shared
 use Rattle.orders.proofs.Steps.{later_goes_on}
-use Rattle.editions.specs.Given as goal
+use Rattle.editions.specs.Given as words
 use Rattle.editions.specs.Given.{Edition, Given, opened, judgement_of, record_of, verdict_of, RunsApart, InSomeOrder, as_it_was, after_all}
 use Rattle.editions.specs.Promises as promises
 use Rattle.editions.proofs.Codes.{standing-accepted, laid_of, held_of, sound_opened, bytes_of_lem}
@@ -50,8 +50,8 @@ order_tallies code c runs s apart passes others x y =
 -- two runs, the first of which ends where the second starts or before
 two-apart : (code : Given) (s : State) (r t : Ends) → Image code.edition.bytes s.image
     → Run code.edition.bytes s.image r.start r.end → Run code.edition.bytes s.image t.start t.end → r.end ≤ t.start
-    → s.used + (goal.needed code s.image r.start r.end + goal.needed code s.image t.start t.end)
-    ≤ goal.room code.edition s.journal
+    → s.used + (words.needed code s.image r.start r.end + words.needed code s.image t.start t.end)
+    ≤ words.room code.edition s.journal
     → RunsApart code (r ∷ t ∷ []) s
 unfolding Each EachTwo needed_by_all
 two-apart code s r t i x y clear room =
@@ -126,7 +126,7 @@ shared_record code handed first last between s bytes small tiny done again i in-
     let sound = sound_opened code handed in
     let wide = bytes_of_lem code s.image e bytes in
     let n = narrow code e in
-    let later = after_all code between (goal.state_after code first s) in
+    let later = after_all code between (words.state_after code first s) in
     let v = verdict_same code e s.image i in
     let late = four_bytes last.stamp tiny in (
       λ clean.
@@ -140,7 +140,7 @@ shared_record code handed first last between s bytes small tiny done again i in-
           let both =
           shared.unmended-again o d sound l h t first last between s wide done i in-first n again late
           (omega (arith, wrong, v)) (four_bytes first.stamp small) in-last in (
-            subst (λ x. Memᴰ x (entries_since d s (goal.state_after code first s))) (said first.stamp wrong) both.0,
-            subst (λ x. Memᴰ x (entries_since d later (goal.state_after code last later))) (said last.stamp wrong) both.1,
+            subst (λ x. Memᴰ x (entries_since d s (words.state_after code first s))) (said first.stamp wrong) both.0,
+            subst (λ x. Memᴰ x (entries_since d later (words.state_after code last later))) (said last.stamp wrong) both.1,
           ),
     )

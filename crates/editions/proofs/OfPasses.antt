@@ -42,7 +42,7 @@ use Rattle.passes.proofs.Twice as twice
 use Rattle.passes.proofs.Applied as applied
 use Rattle.passes.proofs.Stamps as stamps
 use Rattle.reading.specs.declared.Reading.{Reading}
-use Rattle.editions.specs.Given as goal
+use Rattle.editions.specs.Given as words
 use Rattle.editions.specs.Given.{Edition, Given, opened, judgement_of, passed_of, Accepted, record_of, read_at, verdict_of, place_for}
 use Rattle.editions.specs.Given.{image_after, journal_after, answer_of, Done, PassRefused, needed, count_from, code_in, Turn, turns_after, AllStamped}
 use Rattle.editions.specs.Promises as promises
@@ -52,14 +52,14 @@ use Rattle.editions.proofs.Codes.{standing-accepted, standing_refused, columns-a
 
 module _ (code : Given) (p : Pass) (s : State) where
   -- a refusal as the demands say it
-  refused_as : (number told : ℕ) → passed_of code p s ≡ refused_with number told s → PassRefused code p s (goal.told number told)
+  refused_as : (number told : ℕ) → passed_of code p s ≡ refused_with number told s → PassRefused code p s (words.told number told)
   refused_as number told e = record {
     answer = ap (λ (x : After). x.answer) e;
     same_image = ap (λ (x : After). x.image) e;
     same_journal = ap (λ (x : After). x.journal) e;
   }
 
-  by_code : goal.Refused code → PassRefused code p s (judgement_of code)
+  by_code : words.Refused code → PassRefused code p s (judgement_of code)
   by_code h =
       refused_as (judgement_of code).number (judgement_of code).told
       (pass_refused (opened code) code.edition.bytes p s (judgement_of code) (standing_refused code h))
@@ -177,7 +177,7 @@ module _ (code : Given) (e : (judgement_of code).number ≡ 0) (image : List ℕ
   unfolding outcome.verdict_of
   finding_verdict = refl
 
-  pub syndrome_same : outcome.syndrome_of f rec ≡ goal.syndrome_for code image i
+  pub syndrome_same : outcome.syndrome_of f rec ≡ words.syndrome_for code image i
   unfolding outcome.syndrome_of seen
   syndrome_same =
       syndrome-read f.rows f.columns f.k word ∙ ap (λ (x : Reading). x.syndrome) (sym read_same)
@@ -210,7 +210,7 @@ pass_records code p s done i l u =
 
 -- an entry's bytes, spelled out
 entry_spelled : (stamp i verdict place syndrome : ℕ) (before after : List ℕ)
-    → head_bytes stamp i verdict place syndrome ++ (before ++ after) ≡ goal.entry_of stamp i verdict place syndrome before after
+    → head_bytes stamp i verdict place syndrome ++ (before ++ after) ≡ words.entry_of stamp i verdict place syndrome before after
 unfolding head_bytes bytes_of
 entry_spelled stamp i verdict place syndrome before after = refl
 
@@ -225,7 +225,7 @@ pass_entries code p s done =
           let left = record_of code.edition (image_after code p s) i in
           facts.entry-is o code.edition.bytes p s t done i l u (λ z. m (sym v ∙ z))
           ∙ entry_spelled p.stamp i _ _ _ (record_of code.edition s.image i) left
-          ∙ (λ j. goal.entry_of p.stamp i ((finding_verdict code n s.image i ∙ v) j) (place j) (syndrome_same code n s.image i j)
+          ∙ (λ j. words.entry_of p.stamp i ((finding_verdict code n s.image i ∙ v) j) (place j) (syndrome_same code n s.image i j)
           (record_of code.edition s.image i) left),
       λ m l.
           let x = facts.entry_whose o code.edition.bytes p s t done m l in
@@ -285,7 +285,7 @@ module _ (e : Edition) where
   pub same_after : (xs : List Turn) (s : State) → turns_after e xs s ≡ steps_after e.bytes (steps_of xs) s
   unfolding turns_after steps_after
   same_after [] s = refl
-  same_after (x ∷ xs) s = same_after xs (goal.state_after (code_in e x) x.pass s)
+  same_after (x ∷ xs) s = same_after xs (words.state_after (code_in e x) x.pass s)
 
   all_known : (xs : List Turn) → AllStamped xs → stamps.AllSteps (steps_of xs)
   unfolding AllStamped stamps.AllSteps

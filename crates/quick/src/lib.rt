@@ -10,11 +10,10 @@ ghost use Rattle.over_run.specs.Whole.{needed_by, tally_in, left_in, entries_by}
 ghost use Rattle.asked.specs.Pass.{pass_over, state_of, wrong_in};
 ghost use Rattle.pass.specs.Pass.{pass_in, after_pass};
 ghost use Rattle.tables.specs.Tables.{values_in};
-ghost use Rattle.guess.specs.Guess.{Guessed};
 ghost use Rattle.quick.specs.Walks.{FirstFits, ListedIn, Listing};
 
 use code::{Opened, Refusal, Standing};
-use guess::SLOTS;
+use guess::{NONE, SLOTS};
 use pass::PassAnswer;
 use record::{CHECK, DATA, HEAD, Tally};
 
@@ -33,9 +32,6 @@ const BRIEF: usize = 48;
 const SHORT: usize = 1024;
 
 const LONG: usize = 6553;
-
-// So few listed records are searched for before the table of guesses is filled.
-const FEW: usize = 1;
 
 // The first walk, by tables of one kind that are filled into what is lent: the records that are not clean are listed, and counted.
 fn walk_by(
@@ -82,17 +78,6 @@ fn first_walk(columns: &[u16], k: usize, rows: u16, d: usize, list: &mut [u32], 
     walk_by(&mut table, false, columns, k, rows, d, list, run)
 }
 
-// Guesses for so many listed records. A table of zeros guesses the first place for all, and the search speaks.
-fn guess_for(guesses: &mut [u8], columns: &[u16], bad: usize)
-    requires { Guessed columns.now guesses.old }
-    ensures { Guessed columns.now guesses.new }
-{
-    if bad <= FEW {
-        return;
-    }
-    guess::fill_guesses(guesses, columns);
-}
-
 // The second walk: the listed records are mended and entered.
 fn second_walk(
     columns: &[u16],
@@ -113,8 +98,8 @@ fn second_walk(
         ≡ over (in_bytes (entries_by (reader columns.now k rows d) stamp first run.old))
         journal.old }
 {
-    let mut guesses = [0u8; SLOTS];
-    guess_for(&mut guesses, columns, bad);
+    let mut guesses = [NONE; SLOTS];
+    guess::fill_guesses(&mut guesses, columns);
     by_list::mended(
         columns, &guesses, k, rows, d, list, bad, run, first, journal, stamp,
     )
