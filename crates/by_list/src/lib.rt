@@ -95,7 +95,6 @@ pub fn mended(
         let sight = sight_by(columns, guesses, k, rows, d, s, &run[at..end]);
         let verdict = sight.verdict;
         let finding = verdict::finding_of(verdict);
-        tally = tally.counted(finding.verdict as u8);
         entering::enter(
             &mut run[at..end],
             &mut journal[used..to],
@@ -105,6 +104,7 @@ pub fn mended(
             number,
             sight,
         );
+        tally = tally.counted(finding.verdict as u8);
         used = to;
         i += 1;
     }
