@@ -9,7 +9,8 @@ use borrow.Author.Tests.{eq-eqb, ne_eqb, lt-ltb, le-ltb}
 use lib.ListN.{length}
 use Rattle.parity.proofs.Ones.{below_or_not}
 use Rattle.record.specs.Layout.{record_size, image_limit, records_in}
-use Rattle.asked.specs.Pass.{Pass, State, no_image, room_in, last_stamp, wrong_in}
+use Rattle.asked.specs.declared.Pass.{Pass}
+use Rattle.asked.specs.Pass.{State, no_image, room_in, last_stamp, wrong_in}
 use Rattle.asked.specs.Asked.{Image, NoImage, Run, NoRun, GoesBack, Askable}
 
 -- ---- bytes that are an image, and bytes that are none

@@ -1,7 +1,8 @@
 -- What may be asked of a pass: rows 12, 14, 17 and 16 of "When the desk says no", over records with d bytes of data. Assumes nothing.
 use Rattle.std.specs.Prelude.{◌≡◌, ◌≢◌, ◌⊎◌, List, ℕ, ◌%◌, ◌≤◌, ◌<◌, length}
 use Rattle.record.specs.Layout.{record_size, image_limit, records_in}
-use Rattle.asked.specs.Pass.{Pass, State, room_in, last_stamp}
+use Rattle.asked.specs.declared.Pass.{Pass}
+use Rattle.asked.specs.Pass.{State, room_in, last_stamp}
 
 -- an image: records and nothing else, and not too many of them
 pub record Image (d : ℕ) (image : List ℕ) : Type 0 where

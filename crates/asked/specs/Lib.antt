@@ -1,2 +1,3 @@
+pub mod Misasked
 pub mod Pass
 pub mod Asked

@@ -3,13 +3,9 @@
 use Rattle.std.specs.Prelude.{Bool, cond, not, ◌||◌, ◌&&◌, List, ℕ, ◌-◌, ◌/◌, ◌%◌, eqb, ltb, length}
 use Rattle.record.specs.Layout.{record_size, entry_size, image_limit, records_in}
 use Rattle.record.specs.Journal.{entry_at}
+use Rattle.asked.specs.declared.Pass.{Pass}
 
 -- what a pass is told: its run, from the record `start` up to the record `end`, which is not counted, and its stamp
-pub record Pass : Type 0 where
-  pub start : ℕ
-  pub end : ℕ
-  pub stamp : ℕ
-
 abbrev pub pass_over : ℕ → ℕ → ℕ → Pass
 pass_over start end stamp = record { start = start; end = end; stamp = stamp }
 

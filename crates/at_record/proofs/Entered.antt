@@ -1,14 +1,13 @@
--- What goes into an entry: a verdict and a place that fit a byte each, and three parts that are all of it. Assumes nothing.
+-- What goes into an entry: a verdict that fits a byte, and three parts that are all of it. Assumes nothing.
 use mathlib.Core.Path.{◌≡◌, refl, ◌∙◌}
 use mathlib.Core.List.{List, [], ◌++◌, append_assoc}
-use Prim.Native.Nat.{ℕ, ◌+◌, ◌-◌, ◌≤◌, ◌<◌}
+use Prim.Native.Nat.{ℕ, ◌+◌, ◌-◌, ◌≤◌}
 use native.Mathlib.Omega.{arith}
 use borrow.Rule.Slice.PartMut.{put_mid}
 use lib.ListN.{length, length-append}
 use Rattle.record.proofs.Over.{over-part, over_all}
 use Rattle.verdict.specs.declared.Verdict.{Verdict}
 use Rattle.verdict.specs.declared.Verdict.TheVariants.{Clean, Data, Check, Even, Odd, Stray}
-use Rattle.verdict.specs.Places.{NamesPlace}
 use Rattle.verdict.specs.Verdicts.{finding_of}
 
 pub verdict-top : (v : Verdict) → (finding_of v).verdict ≤ 5
@@ -18,14 +17,6 @@ verdict-top (Check p) = omega arith
 verdict-top Even = omega arith
 verdict-top Odd = omega arith
 verdict-top Stray = omega arith
-
-pub place_fits : (k : ℕ) (v : Verdict) → k ≤ 128 → NamesPlace k v → (finding_of v).place < 256
-place_fits k Clean h n = omega arith
-place_fits k (Data p) h n = omega arith
-place_fits k (Check p) h n = omega (arith, n)
-place_fits k Even h n = omega arith
-place_fits k Odd h n = omega arith
-place_fits k Stray h n = omega arith
 
 -- three parts, the last two as long as each other, are written one behind the other
 pub three_parts_lem : (l x y z : List ℕ) (a b : ℕ) → length x ≡ a → length y ≡ b → length z ≡ b → length l ≡ a + (b + b)

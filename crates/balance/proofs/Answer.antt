@@ -9,9 +9,8 @@ use lib.IntN.{pos, ◌+ℤ◌, -ℤ-+ℤ_cancel}
 use lib.ListN.{length, get_or, replicate}
 use Rattle.code.specs.declared.Opened.{Opened}
 use Rattle.code.specs.declared.Refusal.{Refusal}
-use Rattle.code.specs.declared.Standing.{Standing}
-use Rattle.code.specs.declared.Standing.TheVariants as standing
-use Rattle.code.specs.Opened.{columns_of}
+use Rattle.std.specs.Prelude.{Ok, Err}
+use Rattle.code.specs.Opened.{Standing, columns_of}
 use Rattle.balance.specs.Balance.{row_ones, all_ones, balance_at, balances_from, balances_by, balances_of}
 
 -- ---- any columns
@@ -39,21 +38,21 @@ module _ (cs : List ℕ) (r : ℕ) where
 -- ---- an opened code
 
 module _ (o : Opened) where
-  pub refused_balances : (f : Refusal) → o.standing ≡ standing.Refused f
+  pub refused_balances : (f : Refusal) → o.standing ≡ Err f
       → balances_of o ≡ record { number = f.number; told = f.told; rows = replicate 16 (pos 0) }
   refused_balances f e = rw e
 
-  pub accepted_number : o.standing ≡ standing.Accepted → ((balances_of o).number ≡ 0) × ((balances_of o).told ≡ 0)
+  pub accepted_number : o.standing ≡ Ok tt → ((balances_of o).number ≡ 0) × ((balances_of o).told ≡ 0)
   accepted_number e = rw e (refl, refl)
 
   pub length_balances : length (balances_of o).rows ≡ 16
   length_balances = go o.standing
     where
       go : (s : Standing) → length (balances_by s o).rows ≡ 16
-      go standing.Accepted = length_from _ _ 16 0
-      go (standing.Refused f) = refl
+      go (Ok u) = length_from _ _ 16 0
+      go (Err f) = refl
 
-  module _ (e : o.standing ≡ standing.Accepted) (j : ℕ) where
+  module _ (e : o.standing ≡ Ok tt) (j : ℕ) where
     -- r times the ones of a row of the code, less all ones
     pub balance-row : o.n - o.k ≤ 16 → j < o.n - o.k
         → get_or (balances_of o).rows j (pos 0) +ℤ pos (all_ones (columns_of o)) ≡ pos ((o.n - o.k) * row_ones (columns_of o) j)

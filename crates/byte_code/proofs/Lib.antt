@@ -1,3 +1,2 @@
-pub mod Solutions
 pub mod Steps
 pub mod Exactly

@@ -1,6 +1,6 @@
 -- Writing and reading under the byte-correcting code: document 02, request 114, and the three steps of source document 000, with seven
 -- data bytes. Assumes nothing.
-use Rattle.std.specs.Prelude.{Bool, cond, ◌&&◌, ℕ, zero, suc, ◌+◌, ◌*◌, ◌^◌, eqb, ltb, leb}
+use Rattle.std.specs.Prelude.{Bool, cond, ◌&&◌, ℕ, zero, suc, ◌+◌, ◌*◌, ◌^◌, eqb, leb, Option, Some, None}
 use Rattle.std.specs.Int.Bits.{bit_xor}
 use Rattle.byte_code.specs.declared.ByteNumber.{ByteNumber}
 use Rattle.byte_parts.specs.declared.Parts.{Parts}
@@ -45,10 +45,15 @@ both_zero a b = eqb a 0 && eqb b 0
 abbrev pub solves : Parts → ℕ → Bool
 solves s i = eqb (power_t i s.first) s.second && eqb (power_t (2 * i) s.first) s.third
 
--- the first solution among the n numbers from i on, or the number behind them
-unfoldable pub solution_in : Parts → ℕ → ℕ → ℕ
-solution_in s zero i = i
-solution_in s (suc n) i = cond (solves s i) i (solution_in s n (suc i))
+-- the first solution among the n numbers from i on, or none
+unfoldable pub solution_in : Parts → ℕ → ℕ → Option ℕ
+solution_in s zero i = None
+solution_in s (suc n) i = cond (solves s i) (Some i) (solution_in s n (suc i))
+
+-- a data byte put right where there is a solution, and the word as read where there is none
+abbrev pub solved : Option ℕ → Parts → ℕ → ByteReading
+solved (Some i) s w = put_right 1 (byte_number i) s.first w
+solved None s w = as_read 3 w
 
 -- step 1: all parts zero; step 2: two of them; step 3: a data byte, or no solution
 unfoldable pub read_by : Parts → ℕ → ByteReading
@@ -57,8 +62,7 @@ read_by s w =
     (cond (both_zero s.second s.third) (put_right 2 (byte_number 7) s.first w)
     (cond (both_zero s.first s.third) (put_right 2 (byte_number 8) s.second w)
     (cond (both_zero s.first s.second) (put_right 2 (byte_number 9) s.third w)
-    (cond (ltb (solution_in s 7 0) 7) (put_right 1 (byte_number (solution_in s 7 0)) s.first w)
-    (as_read 3 w)))))
+    (solved (solution_in s 7 0) s w))))
 
 -- ---- the two questions
 

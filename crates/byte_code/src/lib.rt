@@ -4,14 +4,14 @@
 ghost use Rattle.std.specs.Prelude.{◌≡◌, ◌<◌};
 ghost use Rattle.byte_code.specs.Reading as specs;
 
-use byte_parts::Parts;
+use byte_parts::{Parts, data_sum, parts_of, power_t};
 
 // The number of a byte: a kind of its own, so that it is not taken for a place.
 #[repr(C)]
 #[derive(Clone, Copy)]
 pub struct ByteNumber(pub usize);
 
-// The answer to writing: the whole word.
+// The answer to writing: the whole word. The refusal is a number in it, as C has it.
 #[repr(C)]
 #[derive(Clone, Copy)]
 pub struct ByteWriting {
@@ -20,7 +20,7 @@ pub struct ByteWriting {
     pub word: u64,
 }
 
-// The answer to reading: verdict, byte number, and the word put right or as read.
+// The answer to reading: verdict, byte number, and the word put right or as read. Refusal and verdict are numbers, as C has them.
 #[repr(C)]
 #[derive(Clone, Copy)]
 pub struct ByteReading {
@@ -31,34 +31,17 @@ pub struct ByteReading {
     pub word: u64,
 }
 
-// What step 3 asks of i: the error is part 1, and its powers of T are parts 2 and 3.
-fn solves(s: Parts, i: usize) -> bool
-    requires first_bound { s.first < 8 }
-    requires i_bound { i < 7 }
-    ensures { result ≡ specs.solves s i }
-{
-    (byte_parts::power_t(i, s.first) == s.second) & (byte_parts::power_t(2 * i, s.first) == s.third)
-}
-
-// The data byte that step 3 finds, or 7 where it finds none.
-fn solution_in(s: Parts) -> usize
+// The data byte that step 3 finds: the error is part 1, and its powers of T are parts 2 and 3.
+fn solution_in(s: Parts) -> Option<usize>
     requires { s.first < 8 }
     ensures { result ≡ specs.solution_in s 7 0 }
 {
-    let mut i = 0;
-    while i < 7 {
-        if solves(s, i) {
-            return i;
+    for i in 0..7 {
+        if power_t(i, s.first) == s.second && power_t(2 * i, s.first) == s.third {
+            return Some(i);
         }
-        i += 1;
     }
-    i
-}
-
-fn both_zero(a: u64, b: u64) -> bool
-    ensures { result ≡ specs.both_zero a b }
-{
-    (a == 0) & (b == 0)
+    None
 }
 
 // Verdicts 0 and 3: no byte, and the word as read.
@@ -92,32 +75,27 @@ fn put_right(verdict: usize, byte: ByteNumber, pattern: u64, word: u64) -> ByteR
 }
 
 // The three steps.
+#[tactic(auto, using(crate::proofs::Steps::solution_below), unfolding(crate::specs::Reading::read_by))]
 fn read_by(s: Parts, word: u64) -> ByteReading
     requires first_bound { s.first < 8 }
     requires second_bound { s.second < 8 }
     requires third_bound { s.third < 8 }
     ensures { result ≡ specs.read_by s word }
 {
-    if (s.first == 0) & both_zero(s.second, s.third) {
-        return as_read(0, word);
+    match (s.first, s.second, s.third) {
+        (0, 0, 0) => as_read(0, word),
+        (error, 0, 0) => put_right(2, ByteNumber(7), error, word),
+        (0, error, 0) => put_right(2, ByteNumber(8), error, word),
+        (0, 0, error) => put_right(2, ByteNumber(9), error, word),
+        _ => match solution_in(s) {
+            Some(i) => put_right(1, ByteNumber(i), s.first, word),
+            None => as_read(3, word),
+        },
     }
-    if both_zero(s.second, s.third) {
-        return put_right(2, ByteNumber(7), s.first, word);
-    }
-    if both_zero(s.first, s.third) {
-        return put_right(2, ByteNumber(8), s.second, word);
-    }
-    if both_zero(s.first, s.second) {
-        return put_right(2, ByteNumber(9), s.third, word);
-    }
-    let i = solution_in(s);
-    if i < 7 {
-        return put_right(1, ByteNumber(i), s.first, word);
-    }
-    as_read(3, word)
 }
 
 // The word whose data bits are those given and whose three parts are zero.
+#[tactic(auto, unfolding(crate::specs::Reading::byte_writing_of, crate::specs::Reading::byte_word))]
 pub fn write(data: u64) -> ByteWriting
     ensures { result ≡ specs.byte_writing_of «data» }
 {
@@ -128,9 +106,9 @@ pub fn write(data: u64) -> ByteWriting
             word: 0,
         };
     }
-    let first = byte_parts::data_sum(0, data) * 2097152;
-    let second = byte_parts::data_sum(1, data) * 16777216;
-    let third = byte_parts::data_sum(2, data) * 134217728;
+    let first = data_sum(0, data) << 21;
+    let second = data_sum(1, data) << 24;
+    let third = data_sum(2, data) << 27;
     ByteWriting {
         number: 0,
         told: 0,
@@ -139,6 +117,7 @@ pub fn write(data: u64) -> ByteWriting
 }
 
 // The reading of a word.
+#[tactic(auto, unfolding(crate::specs::Reading::byte_reading_of))]
 pub fn read(word: u64) -> ByteReading
     ensures { result ≡ specs.byte_reading_of word }
 {
@@ -151,5 +130,5 @@ pub fn read(word: u64) -> ByteReading
             word: 0,
         };
     }
-    read_by(byte_parts::parts_of(word), word)
+    read_by(parts_of(word), word)
 }

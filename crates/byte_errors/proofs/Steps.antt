@@ -1,12 +1,12 @@
 -- Which row a syndrome gets: each verdict exactly where its step holds. Assumes nothing.
 use mathlib.Core.Path.{◌≡◌, refl, sym, ap, ◌∙◌, subst}
-use mathlib.Core.Logic.{◌≢◌, ◌⊎◌, inl, inr, ⊎_elim}
+use mathlib.Core.Logic.{◌≢◌, inl, inr}
 use mathlib.Core.Bool.{Bool, true, false, cond, true≢false}
 use Prim.Native.Nat.{ℕ, zero, suc, ◌+◌, ◌*◌, ◌^◌, ◌≤◌, ◌<◌, zero-le}
 use native.Mathlib.Omega.{arith}
 use borrow.Author.Tests.{eq-eqb, eqb-true}
 use lib.Dec.{eqb}
-use Rattle.parity.proofs.Ones.{below_or_not}
+use Rattle.std.specs.Prelude.{Option, Some, None}
 use Rattle.parity.proofs.Tested.{both}
 use Rattle.byte_parts.specs.declared.Parts.{Parts}
 use Rattle.byte_parts.specs.Vectors.{power_t}
@@ -31,30 +31,40 @@ solves-says s i h =
 says-solves : (s : Parts) (i : ℕ) → Solves s i → solves s i ≡ true
 says-solves s i h = rw (eq-eqb _ _ h.0, eq-eqb _ _ h.1)
 
--- where it stops before its end, that is a solution
-solution_at : (s : Parts) (n i : ℕ) → solution_in s n i < i + n → Solves s (solution_in s n i)
+-- what it finds is one of the n numbers from i on, and a solution
+solution_at : (s : Parts) (n i j : ℕ) → solution_in s n i ≡ Some j → (j < i + n) × Solves s j
 unfolding solution_in
-solution_at s zero i l = absurd (omega arith)
-solution_at s (suc n) i l = go (solves s i) refl l (λ m. solution_at s n (suc i) m)
+solution_at s zero i j e = cc
+solution_at s (suc n) i j e = go (solves s i) refl e (λ f. solution_at s n (suc i) j f)
   where
-    go : (t : Bool) → solves s i ≡ t → cond t i (solution_in s n (suc i)) < i + suc n
-        → (solution_in s n (suc i) < suc i + n → Solves s (solution_in s n (suc i)))
-        → Solves s (cond t i (solution_in s n (suc i)))
-    go true e m rest = solves-says s i e
-    go false e m rest = rest (omega arith)
+    go : (t : Bool) → solves s i ≡ t → cond t (Some i) (solution_in s n (suc i)) ≡ Some j
+        → (solution_in s n (suc i) ≡ Some j → (j < suc i + n) × Solves s j) → (j < i + suc n) × Solves s j
+    go true h e rest = let here : i ≡ j = cc in (omega (arith, here), subst (Solves s) here (solves-says s i h))
+    go false h e rest = let r = rest e in (omega (arith, r.0), r.1)
 
--- where there is a solution, it stops before its end
-solution_found : (s : Parts) (n i j : ℕ) → i ≤ j → j < i + n → Solves s j → solution_in s n i < i + n
+-- where it finds none, there is none
+solution_none : (s : Parts) (n i j : ℕ) → solution_in s n i ≡ None → i ≤ j → j < i + n → Solves s j → ⊥
 unfolding solution_in
-solution_found s zero i j h l q = absurd (omega arith)
-solution_found s (suc n) i j h l q = go (solves s i) refl (λ m. solution_found s n (suc i) j m (omega arith) q)
+solution_none s zero i j e h l q = absurd (omega arith)
+solution_none s (suc n) i j e h l q = go (solves s i) refl e (λ f m. solution_none s n (suc i) j f m (omega arith) q)
   where
-    go : (t : Bool) → solves s i ≡ t → (suc i ≤ j → solution_in s n (suc i) < suc i + n) → cond t i (solution_in s n (suc i)) < i + suc n
-    go true e rest = omega arith
-    go false e rest =
-        let apart : i ≢ j = λ z. true≢false (sym (says-solves s i (subst (Solves s) (sym z) q)) ∙ e) in
-        let m = rest (omega (arith, apart)) in
-        omega arith
+    go : (t : Bool) → solves s i ≡ t → cond t (Some i) (solution_in s n (suc i)) ≡ None → (solution_in s n (suc i) ≡ None → suc i ≤ j → ⊥) → ⊥
+    go true g e rest = cc
+    go false g e rest =
+        let apart : i ≢ j = λ z. true≢false (sym (says-solves s i (subst (Solves s) (sym z) q)) ∙ g) in
+        rest e (omega (arith, apart))
+
+-- it finds one, or none
+data Found (s : Parts) : Type 0 where
+  one_found : (i : ℕ) → solution_in s 7 0 ≡ Some i → Found s
+  none_found : solution_in s 7 0 ≡ None → Found s
+
+found : (s : Parts) → Found s
+found s = go (solution_in s 7 0) refl
+  where
+    go : (o : Option ℕ) → solution_in s 7 0 ≡ o → Found s
+    go (Some i) e = one_found i e
+    go None e = none_found e
 
 -- numbers that cannot differ are equal
 pub same_unless : (a b : ℕ) → ¬ (a ≢ b) → a ≡ b
@@ -174,15 +184,13 @@ pub by_data : (s : Parts) (w i : ℕ) → Vectors s → DataError s i
     → Explains s i s.first × (read_by s w ≡ put_right 1 (byte_number i) s.first w)
 by_data s w i v d =
     let n = steps_no s d.no_step_1 d.no_step_2 in
-    let q : Solves s i = (d.second, d.third) in
-    let l = solution_found s 7 0 i zero-le d.below q in
-    let e = solution_only s (solution_in s 7 0) i v.first nonzero l d.below (solution_at s 7 0 l) q in (
+    let q : Solves s i = (d.second, d.third) in (
       record {
         below = omega (arith, d.below);
         vector = v.first;
         parts = parts_data s.first i v.first d.below ∙ rw (d.second, d.third);
       },
-      row_data s w n l ∙ ap (λ j. put_right 1 (byte_number j) s.first w) e,
+      row n q (found s),
     )
   where
     -- a power of T takes zero to zero: were part 1 zero, all three would be
@@ -194,19 +202,25 @@ by_data s w i v d =
         d.no_step_1
         (record { first = z; second = taken i s.second d.second z; third = taken (2 * i) s.third d.third z })
 
+    row : NoCheck s → Solves s i → Found s → read_by s w ≡ put_right 1 (byte_number i) s.first w
+    row n q (one_found j e) =
+        let a = solution_at s 7 0 j e in
+        row_data s w j n e
+        ∙ ap (λ k. put_right 1 (byte_number k) s.first w) (solution_only s j i v.first nonzero a.0 d.below a.1 q)
+    row n q (none_found e) = absurd (solution_none s 7 0 i e zero-le d.below q)
+
 -- what the search finds, where steps 1 and 2 do not hold
-found_error : (s : Parts) → (¬ NoError s) × ((t : ℕ) → ¬ CheckError s t) → solution_in s 7 0 < 7 → DataError s (solution_in s 7 0)
-found_error s o l =
-    let q = solution_at s 7 0 l in
-    record { no_step_1 = o.0; no_step_2 = o.1; below = l; second = q.0; third = q.1 }
+found_error : (s : Parts) → (¬ NoError s) × ((t : ℕ) → ¬ CheckError s t) → (i : ℕ) → solution_in s 7 0 ≡ Some i → DataError s i
+found_error s o i e =
+    let q = solution_at s 7 0 i e in
+    record { no_step_1 = o.0; no_step_2 = o.1; below = q.0; second = q.1.0; third = q.1.1 }
 
 pub by_none : (s : Parts) (w : ℕ) → NoStep s → read_by s w ≡ as_read 3 w
-by_none s w d =
-    let n = steps_no s d.no_step_1 d.no_step_2 in
-    row_flagged s w n (⊎_elim
-    (λ (l : solution_in s 7 0 < 7).
-    absurd (d.no_step_3 (solution_in s 7 0) (found_error s (d.no_step_1, d.no_step_2) l)))
-    (λ l. l) (below_or_not (solution_in s 7 0) 7))
+by_none s w d = go (found s)
+  where
+    go : Found s → read_by s w ≡ as_read 3 w
+    go (one_found i e) = absurd (d.no_step_3 i (found_error s (d.no_step_1, d.no_step_2) i e))
+    go (none_found e) = row_flagged s w (steps_no s d.no_step_1 d.no_step_2) e
 
 -- one step holds, or none
 pub data WhichStep (s : Parts) : Type 0 where
@@ -218,14 +232,14 @@ pub data WhichStep (s : Parts) : Type 0 where
 pub step_of : (s : Parts) → WhichStep s
 step_of s = one (zero_syndrome s) refl
   where
-    third : NoCheck s → (solution_in s 7 0 < 7) ⊎ (7 ≤ solution_in s 7 0) → WhichStep s
-    third n (inl l) = step-3 (solution_in s 7 0) (found_error s (no_steps s n) l)
-    third n (inr l) =
+    third : NoCheck s → Found s → WhichStep s
+    third n (one_found i e) = step-3 i (found_error s (no_steps s n) i e)
+    third n (none_found e) =
         let o = no_steps s n in
         no_step (record {
           no_step_1 = o.0;
           no_step_2 = o.1;
-          no_step_3 = λ i d. let m = solution_found s 7 0 i zero-le d.below (d.second, d.third) in omega arith;
+          no_step_3 = λ i d. solution_none s 7 0 i e zero-le d.below (d.second, d.third);
         })
 
     -- not all three parts are zero
@@ -238,7 +252,7 @@ step_of s = one (zero_syndrome s) refl
         let z = zero_both s.first s.second e in
         step-2 9 (inr (inr (refl, (λ f. some n z.0 z.1 f, z.0, z.1))))
     nine n a b false e =
-        third (record { some = n; seven = a; eight = b; nine = e }) (below_or_not (solution_in s 7 0) 7)
+        third (record { some = n; seven = a; eight = b; nine = e }) (found s)
 
     eight : zero_syndrome s ≡ false → both_zero s.second s.third ≡ false → (b : Bool) → both_zero s.first s.third ≡ b
         → WhichStep s

@@ -1,18 +1,11 @@
 -- The sums over data bytes, and the parts, are vectors of three bits. Assumes nothing.
-use mathlib.Core.Path.{◌≡◌}
-use Prim.Native.Nat.{ℕ, zero, suc, ◌+◌, ◌*◌, ◌<◌}
+use Prim.Native.Nat.{ℕ, zero, suc, ◌*◌, ◌<◌}
 use native.Mathlib.Omega.{arith}
-use native.Mathlib.Numerals.{add-one}
-use lib.Bits.{bit_xor, xor_lt}
+use lib.Bits.{xor_lt}
 use lib.Dec.{lit<}
 use Rattle.byte_parts.specs.Vectors.{power_t}
 use Rattle.byte_parts.specs.Parts.{byte_at, sum_to, parts_of}
 use Rattle.byte_parts.proofs.Vectors.{power_lt}
-
--- the sum with one byte more
-pub sum_next : (step i w : ℕ) → sum_to step (i + 1) w ≡ bit_xor (sum_to step i w) (power_t (step * i) (byte_at w i))
-unfolding sum_to
-sum_next step i w = rw (add-one i)
 
 pub sum_lt : (step n w : ℕ) → sum_to step n w < 8
 unfolding sum_to

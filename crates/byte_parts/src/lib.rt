@@ -15,6 +15,7 @@ pub struct Parts {
 }
 
 // T takes (b0, b1, b2) to (b2, b0 + b2, b1), sums without carry.
+#[tactic(auto, using(crate::proofs::Vectors::t_of))]
 fn times_t(v: u64) -> u64
     requires { v < 8 }
     ensures value { result ≡ vectors.times_t v }
@@ -27,16 +28,15 @@ fn times_t(v: u64) -> u64
 }
 
 // The i-th power of T, times a vector.
+#[tactic(auto, using(crate::proofs::Vectors::power_lt), unfolding(crate::specs::Vectors::power_t))]
 pub fn power_t(i: usize, v: u64) -> u64
     requires { v < 8 }
     ensures value { result ≡ vectors.power_t i v }
     ensures upper_bound { result < 8 }
 {
     let mut u = v;
-    let mut j = 0;
-    while j < i {
+    for _ in 0..i {
         u = times_t(u);
-        j += 1;
     }
     u
 }
@@ -50,20 +50,20 @@ fn byte_at(word: u64, t: usize) -> u64
 }
 
 // The sum over the seven data bytes, byte t under the power `step` times t of T.
+#[tactic(auto, using(crate::proofs::Sums::sum_lt), unfolding(crate::specs::Parts::sum_to))]
 pub fn data_sum(step: usize, word: u64) -> u64
     requires { step ≤ 2 }
     ensures value { result ≡ parts.data_sum step word }
     ensures upper_bound { result < 8 }
 {
-    let mut sum: u64 = 0;
-    let mut t = 0;
-    while t < 7 {
-        sum = sum ^ power_t(step * t, byte_at(word, t));
-        t += 1;
+    let mut sum = 0;
+    for t in 0..7 {
+        sum ^= power_t(step * t, byte_at(word, t));
     }
     sum
 }
 
+#[tactic(auto, unfolding(crate::specs::Parts::parts_of))]
 pub fn parts_of(word: u64) -> Parts
     ensures { result ≡ parts.parts_of word }
 {

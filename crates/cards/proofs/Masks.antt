@@ -1,5 +1,5 @@
 -- A card's masks: the search of them finds nothing exactly where none breaks the rule, and else the smallest that does. Assumes nothing.
-use mathlib.Core.Path.{◌≡◌, refl}
+use mathlib.Core.Path.{◌≡◌, refl, sym, ap}
 use mathlib.Core.Bool.{Bool, true, false, cond, ◌||◌, ◌&&◌, or-true}
 use mathlib.Core.Logic.{◌↔◌, ◌⊎◌, inl, inr, ⊎_elim}
 use mathlib.Core.List.{List}
@@ -11,8 +11,9 @@ use lib.Dec.{eqb, leb}
 use lib.ListN.{length}
 use Rattle.columns.specs.Mix.{mix, column, place_in}
 use Rattle.columns.proofs.Places.{place_hit, place_first}
-use Rattle.cards.specs.declared.Found.TheVariants.{Nothing, At}
-use Rattle.cards.specs.Cards.{is_column, weak_mask, try_mask, weak_mask_in}
+use Rattle.std.proofs.Common.{Option, Some, None}
+use Rattle.cards.specs.declared.Weak.{Weak}
+use Rattle.cards.specs.Cards.{is_column, weak_at, weak_mask, try_mask, weak_mask_in}
 use Rattle.cards.specs.Rule.{Flagged, Breaks}
 use Rattle.cards.proofs.Search.{nothing-found, something_found}
 
@@ -64,32 +65,41 @@ module _ (cs card : List ℕ) (mask : ℕ) where
       let f = h k.inside k.several in
       ⊎_elim (λ e. f.nonzero e) (λ w. f.no_column w.0 w.1 w.2) k.makes
 
+-- what is told
+abbrev told_card : Option Weak → ℕ
+told_card None = 0
+told_card (Some w) = w.card
+
+abbrev told_mask : Option Weak → ℕ
+told_mask None = 0
+told_mask (Some w) = w.mask
+
 module _ (cs card : List ℕ) (number : ℕ) where
-  pub try_weak : (mask : ℕ) → weak_mask cs card mask ≡ true → try_mask cs card number mask ≡ At number mask
+  pub try_weak : (mask : ℕ) → weak_mask cs card mask ≡ true → try_mask cs card number mask ≡ weak_at number mask
   unfolding try_mask
   try_weak mask e = rw e
 
-  pub try_kept : (mask : ℕ) → weak_mask cs card mask ≡ false → try_mask cs card number mask ≡ Nothing
+  pub try_kept : (mask : ℕ) → weak_mask cs card mask ≡ false → try_mask cs card number mask ≡ None
   unfolding try_mask
   try_kept mask e = rw e
 
-  try_nothing : (mask : ℕ) → mask < 2 ^ length card → (try_mask cs card number mask ≡ Nothing) ↔ (¬ (Breaks cs card mask))
+  try_nothing : (mask : ℕ) → mask < 2 ^ length card → (try_mask cs card number mask ≡ None) ↔ (¬ (Breaks cs card mask))
   unfolding try_mask
   try_nothing mask l = go (weak_mask cs card mask) (weak_breaks cs card mask l) (breaks_weak cs card mask)
     where
       go : (w : Bool) → (w ≡ true → Breaks cs card mask) → (Breaks cs card mask → w ≡ true)
-          → (cond w (At number mask) Nothing ≡ Nothing) ↔ (¬ (Breaks cs card mask))
+          → (cond w (weak_at number mask) None ≡ None) ↔ (¬ (Breaks cs card mask))
       go true p q = (λ h. let z : ◌≡◌ {A = ℕ} 0 1 = cc in absurd (omega arith), λ k. absurd (k (p refl)))
       go false p q = (λ h k. let e = q k in let z : ◌≡◌ {A = ℕ} 0 1 = cc in omega arith, λ k. refl)
 
   try_at : (mask n m : ℕ) → mask < 2 ^ length card
-      → (try_mask cs card number mask ≡ At n m) ↔ ((n ≡ number) × (m ≡ mask) × Breaks cs card mask)
+      → (try_mask cs card number mask ≡ weak_at n m) ↔ ((n ≡ number) × (m ≡ mask) × Breaks cs card mask)
   unfolding try_mask
   try_at mask n m l = go (weak_mask cs card mask) (weak_breaks cs card mask l) (breaks_weak cs card mask)
     where
       go : (w : Bool) → (w ≡ true → Breaks cs card mask) → (Breaks cs card mask → w ≡ true)
-          → (cond w (At number mask) Nothing ≡ At n m) ↔ ((n ≡ number) × (m ≡ mask) × Breaks cs card mask)
-      go true p q = (λ h. (cc, cc, p refl), λ k. let e = k.0 in let f = k.1 in cc)
+          → (cond w (weak_at number mask) None ≡ weak_at n m) ↔ ((n ≡ number) × (m ≡ mask) × Breaks cs card mask)
+      go true p q = (λ h. (sym (ap told_card h), sym (ap told_mask h), p refl), λ k. let e = k.0 in let f = k.1 in cc)
       go false p q = (
         λ h. let z : ◌≡◌ {A = ℕ} 0 1 = cc in absurd (omega arith),
         λ k. let e = q k.2 in let z : ◌≡◌ {A = ℕ} 0 1 = cc in absurd (omega arith),
@@ -97,7 +107,7 @@ module _ (cs card : List ℕ) (number : ℕ) where
 
   -- ---- all masks of a card
 
-  pub masks_nothing : (weak_mask_in cs card number ≡ Nothing) ↔ ((mask : ℕ) → ¬ (Breaks cs card mask))
+  pub masks_nothing : (weak_mask_in cs card number ≡ None) ↔ ((mask : ℕ) → ¬ (Breaks cs card mask))
   unfolding weak_mask_in
   masks_nothing =
       let all = nothing-found (try_mask cs card number) (2 ^ length card) in (
@@ -106,7 +116,7 @@ module _ (cs card : List ℕ) (number : ℕ) where
       )
 
   pub masks_at : (n mask : ℕ)
-      → (weak_mask_in cs card number ≡ At n mask) ↔ ((n ≡ number) × Breaks cs card mask × ((m : ℕ) → m < mask → ¬ (Breaks cs card m)))
+      → (weak_mask_in cs card number ≡ weak_at n mask) ↔ ((n ≡ number) × Breaks cs card mask × ((m : ℕ) → m < mask → ¬ (Breaks cs card m)))
   unfolding weak_mask_in
   masks_at n mask = (
     λ h.

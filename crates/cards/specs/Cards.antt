@@ -1,9 +1,9 @@
 -- The cards of a code and the card check: document 01, "Cards", as 02's request 105 amends it. Assumes nothing.
-use Rattle.std.specs.Prelude.{Bool, cond, ◌||◌, ◌&&◌, List, [], ◌∷◌, ◌++◌, ℕ, zero, suc, ◌+◌, ◌-◌, ◌/◌, ◌^◌, eqb, ltb, leb, length, take, drop, get_or}
+use Rattle.std.specs.Prelude.{Bool, cond, ◌||◌, ◌&&◌, List, [], ◌∷◌, ◌++◌, ℕ, zero, suc, ◌+◌, ◌-◌, ◌/◌, ◌^◌, eqb, ltb, leb, length, take, drop, get_or, Option, Some, None}
 use Rattle.std.specs.Int.Count.{ones}
+use Rattle.std.specs.Option.{option_or}
 use Rattle.columns.specs.Mix.{mix, place_in}
-use Rattle.cards.specs.declared.Found.{Found}
-use Rattle.cards.specs.declared.Found.TheVariants.{Nothing, At}
+use Rattle.cards.specs.declared.Weak.{Weak}
 
 -- ---- the cards of a code
 
@@ -43,25 +43,24 @@ is_column cs s = ltb (place_in cs s) (length cs)
 unfoldable pub weak_mask : List ℕ → List ℕ → ℕ → Bool
 weak_mask cs card mask = leb 2 (ones mask) && (eqb (mix card mask) 0 || is_column cs (mix card mask))
 
--- the first of two answers that finds something
-abbrev pub unless_found : Found → Found → Found
-unless_found Nothing b = b
-unless_found (At t mask) b = At t mask
+-- card t, with a mask of it
+abbrev pub weak_at : ℕ → ℕ → Option Weak
+weak_at t mask = Some (record { card = t; mask = mask })
 
 -- the first find of f at the n numbers from m on
-unfoldable pub first_from : (ℕ → Found) → ℕ → ℕ → Found
-first_from f zero m = Nothing
-first_from f (suc n) m = unless_found (f m) (first_from f n (suc m))
+unfoldable pub first_from : (ℕ → Option Weak) → ℕ → ℕ → Option Weak
+first_from f zero m = None
+first_from f (suc n) m = option_or (f m) (first_from f n (suc m))
 
 -- one mask of the card that has this number
-unfoldable pub try_mask : List ℕ → List ℕ → ℕ → ℕ → Found
-try_mask cs card number mask = cond (weak_mask cs card mask) (At number mask) Nothing
+unfoldable pub try_mask : List ℕ → List ℕ → ℕ → ℕ → Option Weak
+try_mask cs card number mask = cond (weak_mask cs card mask) (weak_at number mask) None
 
 -- the smallest mask of a card that breaks the rule
-unfoldable pub weak_mask_in : List ℕ → List ℕ → ℕ → Found
+unfoldable pub weak_mask_in : List ℕ → List ℕ → ℕ → Option Weak
 weak_mask_in cs card number = first_from (try_mask cs card number) (2 ^ length card) 0
 
 -- the first weak card of a list of cards that are numbered from `number` on, with its smallest mask
-unfoldable pub weak_card_in : List ℕ → ℕ → List Card → Found
-weak_card_in cs number [] = Nothing
-weak_card_in cs number (card ∷ rest) = unless_found (weak_mask_in cs card.columns number) (weak_card_in cs (suc number) rest)
+unfoldable pub weak_card_in : List ℕ → ℕ → List Card → Option Weak
+weak_card_in cs number [] = None
+weak_card_in cs number (card ∷ rest) = option_or (weak_mask_in cs card.columns number) (weak_card_in cs (suc number) rest)

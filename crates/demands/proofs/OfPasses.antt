@@ -24,7 +24,8 @@ use Rattle.record.specs.Layout.{data_size, record_bytes}
 use Rattle.runs.proofs.Tallies.{tally_same}
 use Rattle.at_record.specs.Outcome as outcome
 use Rattle.at_record.specs.Outcome.{word_in, seen}
-use Rattle.asked.specs.Pass.{Pass, State}
+use Rattle.asked.specs.declared.Pass.{Pass}
+use Rattle.asked.specs.Pass.{State}
 use Rattle.pass.specs.Pass.{reader_of}
 use Rattle.editions.specs.Given.{ten_bytes, hsiao}
 use Rattle.editions.specs.Given as any

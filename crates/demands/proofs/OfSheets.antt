@@ -11,7 +11,8 @@ use lib.Ieee.Scale.{finite}
 use lib.Ieee.Positive.{num, den, den_pos}
 use Rattle.sheet.specs.declared.Limit.{Limit}
 use Rattle.sheet.specs.declared.Limit.TheVariants.{Ceiling, Band, Open}
-use Rattle.sheet.specs.Sheets.{Asked, asked, zero_figure, sheet_of}
+use Rattle.sheet.specs.declared.Asked.{Asked}
+use Rattle.sheet.specs.Sheets.{asked, zero_figure, sheet_of}
 use Rattle.sheet.specs.Rule.{NoSheet, Stands, Within}
 use Rattle.sheet.proofs.Exactly.{refused_exactly, refused_all, answered_exactly, answered_all, yes_exactly}
 use Rattle.sheet.proofs.Zeros.{round-zero}

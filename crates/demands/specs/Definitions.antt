@@ -13,7 +13,8 @@ use Rattle.record.specs.Layout.{data_size, record_size, entry_size, data_in, che
 use Rattle.record.specs.Run.{record_at}
 use Rattle.record.specs.Journal.{entries_from}
 use Rattle.pass.specs.declared.PassAnswer.{PassAnswer}
-use Rattle.asked.specs.Pass.{Pass, State}
+use Rattle.asked.specs.declared.Pass.{Pass}
+use Rattle.asked.specs.Pass.{State}
 use Rattle.pass.specs.Pass.{reader_of, needed_run}
 use Rattle.passes.specs.Twice.{state_in}
 use Rattle.editions.specs.Given.{refused_pass, Stamped}

@@ -5,7 +5,7 @@
 -- their words in Sheets.antt); making a code (02's request 101; its words in Making.antt); words of ten bytes (02's request 114; theirs in
 -- Bytes.antt); putting back (02's request 104; its words in PutBack.antt); places known to be bad (02's request 112; theirs in Bad.antt).
 -- Assumes nothing.
-use Rattle.std.specs.Prelude.{◌≡◌, ◌≢◌, ◌⊎◌, ◌↔◌, true, false, cond, ℕ, ◌+◌, ◌-◌, ◌*◌, ◌/◌, ◌%◌, ◌^◌, ◌≤◌, ◌<◌, min, max, eqb, ltb, pos, ◌+ℤ◌, length, get_or, take, drop}
+use Rattle.std.specs.Prelude.{◌≡◌, ◌≢◌, ◌⊎◌, ◌↔◌, true, false, cond, ℕ, ◌+◌, ◌-◌, ◌*◌, ◌/◌, ◌%◌, ◌^◌, ◌≤◌, ◌<◌, min, max, eqb, ltb, pos, ◌+ℤ◌, length, get_or, take, drop, Ok, Err}
 use mathlib.Core.List.{List, [], ◌∷◌, Memᴰ}
 use Rattle.std.specs.Int.Bits.{bit_xor}
 use Rattle.std.specs.Int.Count.{ones}
@@ -17,7 +17,7 @@ use Rattle.parity.specs.Odd.{odd_ones}
 use Rattle.columns.specs.Mix.{column, flipped}
 use Rattle.columns.specs.Bits.{bit_at, row_bit}
 use Rattle.code.specs.declared.Code.{Code}
-use Rattle.judge.specs.declared.Judged.TheVariants as judged
+use Rattle.judge.specs.declared.Flaw.TheVariants as flaw
 use Rattle.code.specs.Rule.{matrix_of}
 use Rattle.judge.specs.Rule.{Sized, Limits, SaysOfCode}
 use Rattle.balance.specs.Balance.{row_ones, all_ones, sumℤ}
@@ -31,12 +31,13 @@ use Rattle.listing.specs.Sets.{flip_all, entry_of, bytes_for}
 use Rattle.explain.specs.Order.{SetOf, InOrder}
 use Rattle.cards.specs.Cards.{card_at}
 use Rattle.cards.specs.Rule.{CardProof, FirstWeak, flip_mask}
-use Rattle.asked.specs.Pass.{Pass, State, pass_over, state_of, stamp_at}
+use Rattle.asked.specs.declared.Pass.{Pass}
+use Rattle.asked.specs.Pass.{State, pass_over, state_of, stamp_at}
 use Rattle.asked.specs.Asked.{Image, NoImage, Run, NoRun, GoesBack, Askable}
 use Rattle.passes.specs.Twice.{added, tally_again}
 use Rattle.orders.specs.Lists.{Rearranged}
 use Rattle.orders.specs.Orders.{Ends, ends_of, InRun, Apart, AllDone, tallies_given, entries_since, SameEntries, LeftClean, Unmended}
-use Rattle.sheet.specs.Sheets.{Asked}
+use Rattle.sheet.specs.declared.Asked.{Asked}
 use Rattle.sheet.specs.Rule.{NoSheet, Stands, Within}
 use Rattle.sheets.specs.Nearest.{zero_float, one_float, Held, NearestOnly}
 use Rattle.byte_parts.specs.Vectors.{times_t, power_t}
@@ -106,14 +107,14 @@ abbrev pub JudgedExactly : Type 0
 JudgedExactly =
     (code : Code)
     → let says = SaysOfCode 64 code.columns code.k code.r in
-    ((judgement_of code ≡ only_number 0) ↔ says judged.Accepted)
-    × ((judgement_of code ≡ only_number 1) ↔ says judged.NoData)
-    × ((judgement_of code ≡ only_number 2) ↔ says judged.NoChecks)
-    × ((i : ℕ) → (judgement_of code ≡ told 3 i) ↔ says (judged.TooWide i))
-    × ((i : ℕ) → (judgement_of code ≡ told 4 i) ↔ says (judged.EvenColumn i))
-    × ((i : ℕ) → (judgement_of code ≡ told 5 i) ↔ says (judged.SingleOne i))
-    × ((i : ℕ) → (judgement_of code ≡ told 6 i) ↔ says (judged.Repeated i))
-    × ((i : ℕ) → (judgement_of code ≡ told 21 i) ↔ says (judged.Leftover i))
+    ((judgement_of code ≡ only_number 0) ↔ says (Ok tt))
+    × ((judgement_of code ≡ only_number 1) ↔ says (Err flaw.NoData))
+    × ((judgement_of code ≡ only_number 2) ↔ says (Err flaw.NoChecks))
+    × ((i : ℕ) → (judgement_of code ≡ told 3 i) ↔ says (Err (flaw.TooWide i)))
+    × ((i : ℕ) → (judgement_of code ≡ told 4 i) ↔ says (Err (flaw.EvenColumn i)))
+    × ((i : ℕ) → (judgement_of code ≡ told 5 i) ↔ says (Err (flaw.SingleOne i)))
+    × ((i : ℕ) → (judgement_of code ≡ told 6 i) ↔ says (Err (flaw.Repeated i)))
+    × ((i : ℕ) → (judgement_of code ≡ told 21 i) ↔ says (Err (flaw.Leftover i)))
 
 -- Check bits wanted is refused by 1 exactly for k 0 and k over 64, and hands back no bits then.
 abbrev pub CheckBitsRefused : Type 0

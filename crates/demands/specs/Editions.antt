@@ -8,7 +8,8 @@ use Rattle.make.specs.declared.WideMade.{WideMade}
 use Rattle.word.specs.declared.Word.{Word}
 use Rattle.word.specs.Word.{joined}
 use Rattle.record.specs.Layout.{wide_size, record_size, entry_size, image_limit}
-use Rattle.asked.specs.Pass.{Pass, State}
+use Rattle.asked.specs.declared.Pass.{Pass}
+use Rattle.asked.specs.Pass.{State}
 use Rattle.editions.specs.Given.{Edition, ten_bytes, eighteen_bytes, Given, HsiaoCode, given, MadeCode}
 use Rattle.editions.specs.Given as of_any
 use Rattle.editions.specs.Promises as promises

@@ -3,7 +3,8 @@ use Rattle.std.specs.Prelude.{List, ℕ}
 use Rattle.code.specs.declared.Code.{Code}
 use Rattle.code.specs.Opened.{opened_of}
 use Rattle.record.specs.Layout.{data_size, Entry}
-use Rattle.asked.specs.Pass.{Pass, State}
+use Rattle.asked.specs.declared.Pass.{Pass}
+use Rattle.asked.specs.Pass.{State}
 use Rattle.pass.specs.Pass.{reader_of}
 use Rattle.orders.specs.Orders.{Ends, needed_by_all, Separate, OrderOf, passes_after}
 use Rattle.desk.specs.Answers.{passed_of}

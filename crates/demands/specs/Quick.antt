@@ -5,7 +5,8 @@ use Rattle.code.specs.declared.Code.{Code}
 use Rattle.code.specs.declared.WideCode.{WideCode}
 use Rattle.rows.specs.declared.RowCode.{RowCode}
 use Rattle.rows.specs.declared.WideRowCode.{WideRowCode}
-use Rattle.asked.specs.Pass.{Pass, State}
+use Rattle.asked.specs.declared.Pass.{Pass}
+use Rattle.asked.specs.Pass.{State}
 use Rattle.pass.specs.Pass.{After}
 use Rattle.desk.specs.Answers.{passed_of}
 use Rattle.desk.specs.Wide.{wide_passed_of}

@@ -8,7 +8,8 @@ use Rattle.rows.specs.declared.WideRowCode.{WideRowCode}
 use Rattle.families.specs.AsRows.{as_rows, as_wide_rows}
 use Rattle.word.specs.declared.Word.{Word}
 use Rattle.word.specs.Word.{joined}
-use Rattle.asked.specs.Pass.{Pass, State}
+use Rattle.asked.specs.declared.Pass.{Pass}
+use Rattle.asked.specs.Pass.{State}
 use Rattle.editions.specs.Given.{ten_bytes, eighteen_bytes, ChosenCode, chosen_of}
 use Rattle.editions.specs.Given as of_any
 use Rattle.editions.specs.Promises as promises

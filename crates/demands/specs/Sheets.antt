@@ -4,7 +4,7 @@ use Rattle.sheet.specs.declared.Sheet.{Sheet}
 use Rattle.sheet.specs.declared.SheetAnswer.{SheetAnswer}
 use Rattle.sheet.specs.declared.Limit.{Limit}
 use Rattle.sheet.specs.declared.Limit.TheVariants.{Ceiling, Band, Open}
-use Rattle.sheet.specs.Sheets.{Asked}
+use Rattle.sheet.specs.declared.Asked.{Asked}
 use Rattle.sheets.specs.Nearest.{zero_float}
 use Rattle.desk.specs.Answers.{ceiling_sheet, band_sheet, open_sheet}
 

@@ -17,7 +17,8 @@ use Rattle.record.specs.Layout.{data_size}
 use Rattle.explain.specs.Explanations.{Explained, explain_of}
 use Rattle.card_check.specs.declared.CardCheck.{CardCheck}
 use Rattle.card_check.specs.Checking.{carded_of}
-use Rattle.asked.specs.Pass.{Pass, State}
+use Rattle.asked.specs.declared.Pass.{Pass}
+use Rattle.asked.specs.Pass.{State}
 use Rattle.pass.specs.Pass.{After, after_pass}
 use Rattle.put_back.specs.Back.{Returned}
 use Rattle.put_back.specs.Back as backwards

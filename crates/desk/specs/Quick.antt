@@ -7,7 +7,8 @@ use Rattle.rows.specs.declared.RowCode.{RowCode}
 use Rattle.rows.specs.declared.WideRowCode.{WideRowCode}
 use Rattle.rows.specs.Opened.{opened_rows, opened_wide_rows}
 use Rattle.record.specs.Layout.{data_size, wide_size}
-use Rattle.asked.specs.Pass.{Pass, State}
+use Rattle.asked.specs.declared.Pass.{Pass}
+use Rattle.asked.specs.Pass.{State}
 use Rattle.pass.specs.Pass.{After, after_pass}
 
 abbrev pub quick_passed_of : Code → Pass → State → After

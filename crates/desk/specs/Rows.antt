@@ -18,7 +18,8 @@ use Rattle.record.specs.Layout.{data_size, wide_size}
 use Rattle.explain.specs.Explanations.{Explained, explain_of}
 use Rattle.card_check.specs.declared.CardCheck.{CardCheck}
 use Rattle.card_check.specs.Checking.{carded_of}
-use Rattle.asked.specs.Pass.{Pass, State}
+use Rattle.asked.specs.declared.Pass.{Pass}
+use Rattle.asked.specs.Pass.{State}
 use Rattle.pass.specs.Pass.{After, after_pass}
 use Rattle.recover.specs.declared.Recovery.{Recovery}
 use Rattle.recover.specs.Recover.{recover_of}

@@ -20,7 +20,8 @@ use Rattle.record.specs.Layout.{wide_size}
 use Rattle.explain.specs.Explanations.{Explained, explain_of}
 use Rattle.card_check.specs.declared.CardCheck.{CardCheck}
 use Rattle.card_check.specs.Checking.{carded_of}
-use Rattle.asked.specs.Pass.{Pass, State}
+use Rattle.asked.specs.declared.Pass.{Pass}
+use Rattle.asked.specs.Pass.{State}
 use Rattle.put_back.specs.Back.{Returned}
 use Rattle.recover.specs.declared.Recovery.{Recovery}
 use Rattle.recover.specs.Recover.{recover_of}

@@ -1,4 +1,4 @@
-// What C links: an export for each question of `desk`, with the same clauses.
+// What C links: an export for each question, and for each kind of code that it may be asked of, since C has no generic functions.
 #![tactic(auto)]
 
 ghost use Rattle.std.specs.Prelude.{◌≡◌};
@@ -10,16 +10,18 @@ ghost use Rattle.desk.specs.Answers.{byte_written, byte_read};
 ghost use Rattle.desk.specs.Answers.{put_back_of};
 ghost use Rattle.desk.specs.Answers.{recovered_of, bad_places_of};
 
+use asked::Pass;
 use balance::RowBalance;
 use byte_code::{ByteReading, ByteWriting};
 use card_check::CardCheck;
 use code::{Code, Refusal};
-use desk::{BadPlaces, ReadWord, Recovered};
+use desk::{BadPlaces, ReadWord, Recovered, VERSION, word_with};
 use explain::Listing;
 use make::Made;
 use pass::PassAnswer;
 use put_back::PutBack;
-use sheet::SheetAnswer;
+use record::DATA;
+use sheet::{Limit, SheetAnswer};
 use wanted::CheckBits;
 use writing::CheckWord;
 
@@ -32,7 +34,7 @@ pub mod wide_row_sets;
 pub extern "C" fn desk_version() -> usize
     ensures { result ≡ version }
 {
-    desk::desk_version()
+    VERSION
 }
 
 // Check bits wanted: the number, and the check bits where it is 0.
@@ -40,7 +42,7 @@ pub extern "C" fn desk_version() -> usize
 pub extern "C" fn desk_check_bits(k: usize) -> CheckBits
     ensures { result ≡ check_bits_of k }
 {
-    desk::desk_check_bits(k)
+    wanted::check_bits_wanted::<64>(k)
 }
 
 // The judge: the number, and the place of the bad column.
@@ -48,7 +50,7 @@ pub extern "C" fn desk_check_bits(k: usize) -> CheckBits
 pub extern "C" fn desk_judge(code: Code) -> Refusal
     ensures { result ≡ judgement_of code }
 {
-    desk::desk_judge(code)
+    questions::judge(code)
 }
 
 // Row balance: all 16 rows.
@@ -56,7 +58,7 @@ pub extern "C" fn desk_judge(code: Code) -> Refusal
 pub extern "C" fn desk_row_balance(code: Code) -> RowBalance
     ensures { result ≡ rows_of code }
 {
-    desk::desk_row_balance(code)
+    questions::row_balance(code)
 }
 
 // Writing: the check bits.
@@ -64,14 +66,14 @@ pub extern "C" fn desk_row_balance(code: Code) -> RowBalance
 pub extern "C" fn desk_write(code: Code, data: u64) -> CheckWord
     ensures { result ≡ written_of code «data» }
 {
-    desk::desk_write(code, data)
+    questions::write(code, data, 0)
 }
 
 #[unsafe(no_mangle)]
 pub extern "C" fn desk_read(code: Code, data: u64, check: u16) -> ReadWord
     ensures { result ≡ read_of code «data» check }
 {
-    desk::desk_read(code, data, check)
+    ReadWord::from(questions::read(code, word_with(data, check)))
 }
 
 // Explanations: the list's length where it is done; the list itself stands in the lent bytes.
@@ -86,7 +88,7 @@ pub extern "C" fn desk_explain(
     ensures value { result ≡ (explained_of code «data» check limit list.old).answer }
     ensures list_after { list.new ≡ (explained_of code «data» check limit list.old).list }
 {
-    desk::desk_explain(code, data, check, limit, list)
+    questions::explain(code, word_with(data, check), limit, list)
 }
 
 // The card check: the first weak card and its smallest mask, where the number is 9. Cards begin again at the first check place.
@@ -94,7 +96,7 @@ pub extern "C" fn desk_explain(
 pub extern "C" fn desk_cards(code: Code, b: usize) -> CardCheck
     ensures { result ≡ cards_of code b }
 {
-    desk::desk_cards(code, b)
+    questions::cards(code, b)
 }
 
 // A pass with a stamp over the records of an image from `start` up to `end`, with `used` entries of the journal in use: the count in use
@@ -115,7 +117,8 @@ pub extern "C" fn desk_pass(
     ensures journal_after { journal.new
         ≡ (passed_of code (pass_over start end stamp) (state_of image.old journal.old used)).journal }
 {
-    desk::desk_pass(code, image, start, end, journal, used, stamp)
+    let over = Pass { start, end, stamp };
+    questions::pass(code, over, image, journal, used)
 }
 
 // The put-back: from the last of the `used` entries of a journal to the first, a record that holds an entry's bytes as left gets its bytes as
@@ -125,7 +128,7 @@ pub extern "C" fn desk_put_back(image: &mut [u8], journal: &[u8], used: usize) -
     ensures value { result ≡ (put_back_of image.old journal.now used).answer }
     ensures image_after { image.new ≡ (put_back_of image.old journal.now used).image }
 {
-    desk::desk_put_back(image, journal, used)
+    put_back::put_back(DATA, image, journal, used)
 }
 
 // A station's sheet, judged against a ceiling: the number, yes or no, and the three figures.
@@ -139,7 +142,7 @@ pub extern "C" fn desk_sheet_ceiling(
 ) -> SheetAnswer
     ensures { result ≡ ceiling_sheet hours devices words mended high }
 {
-    desk::desk_sheet_ceiling(hours, devices, words, mended, high)
+    sheet::sheet_of(hours, devices, words, mended, Limit::Ceiling(high))
 }
 
 // A station's sheet, judged against a band.
@@ -154,7 +157,7 @@ pub extern "C" fn desk_sheet_band(
 ) -> SheetAnswer
     ensures { result ≡ band_sheet hours devices words mended low high }
 {
-    desk::desk_sheet_band(hours, devices, words, mended, low, high)
+    sheet::sheet_of(hours, devices, words, mended, Limit::Band(low, high))
 }
 
 // A station's sheet with no limit.
@@ -167,7 +170,7 @@ pub extern "C" fn desk_sheet_open(
 ) -> SheetAnswer
     ensures { result ≡ open_sheet hours devices words mended }
 {
-    desk::desk_sheet_open(hours, devices, words, mended)
+    sheet::sheet_of(hours, devices, words, mended, Limit::Open)
 }
 
 // The maker: the number, and the code, whose places are all 0 where it is refused.
@@ -175,7 +178,7 @@ pub extern "C" fn desk_sheet_open(
 pub extern "C" fn desk_make(k: usize, r: usize) -> Made
     ensures { result ≡ made_of k r }
 {
-    desk::desk_make(k, r)
+    make::make(k, r)
 }
 
 // Writing under the byte-correcting code: the whole word of 30 bits, data in bits 0 to 20.
@@ -183,7 +186,7 @@ pub extern "C" fn desk_make(k: usize, r: usize) -> Made
 pub extern "C" fn desk_byte_write(data: u64) -> ByteWriting
     ensures { result ≡ byte_written «data» }
 {
-    desk::desk_byte_write(data)
+    byte_code::write(data)
 }
 
 // Reading under the byte-correcting code: verdict, byte number, and the word put right or as read.
@@ -191,14 +194,14 @@ pub extern "C" fn desk_byte_write(data: u64) -> ByteWriting
 pub extern "C" fn desk_byte_read(word: u64) -> ByteReading
     ensures { result ≡ byte_read word }
 {
-    desk::desk_byte_read(word)
+    byte_code::read(word)
 }
 
 #[unsafe(no_mangle)]
 pub extern "C" fn desk_recover(code: Code, data: u64, check: u16, bad: &[usize]) -> Recovered
     ensures { result ≡ recovered_of code «data» check bad.now }
 {
-    desk::desk_recover(code, data, check, bad)
+    Recovered::from(questions::recover(code, word_with(data, check), bad))
 }
 
 #[unsafe(no_mangle)]
@@ -211,5 +214,7 @@ pub extern "C" fn desk_find_bad(
 ) -> BadPlaces
     ensures { result ≡ bad_places_of code first_data first_check second_data second_check }
 {
-    desk::desk_find_bad(code, first_data, first_check, second_data, second_check)
+    let first = word_with(first_data, first_check);
+    let second = word_with(second_data, second_check);
+    BadPlaces::from(questions::find_bad(code, first, second))
 }

@@ -3,6 +3,7 @@ ghost use Rattle.std.specs.Prelude.{◌≡◌};
 ghost use Rattle.asked.specs.Pass.{pass_over, state_of};
 ghost use Rattle.desk.specs.Quick.{quick_passed_of, wide_quick_passed_of, rows_quick_passed_of, wide_rows_quick_passed_of};
 
+use asked::Pass;
 use code::{Code, WideCode};
 use pass::PassAnswer;
 use rows::{RowCode, WideRowCode};
@@ -25,7 +26,8 @@ pub extern "C" fn desk_quick_pass(
     ensures journal_after { journal.new
         ≡ (quick_passed_of code (pass_over start end stamp) (state_of image.old journal.old used)).journal }
 {
-    desk::quick_passes::desk_quick_pass(code, image, start, end, journal, used, stamp)
+    let over = Pass { start, end, stamp };
+    questions::quick_pass(code, over, image, journal, used)
 }
 
 // As `desk_wide_pass`.
@@ -46,7 +48,8 @@ pub extern "C" fn desk_wide_quick_pass(
     ensures journal_after { journal.new
         ≡ (wide_quick_passed_of code (pass_over start end stamp) (state_of image.old journal.old used)).journal }
 {
-    desk::quick_passes::desk_wide_quick_pass(code, image, start, end, journal, used, stamp)
+    let over = Pass { start, end, stamp };
+    questions::quick_pass(code, over, image, journal, used)
 }
 
 // As `desk_rows_pass`.
@@ -67,7 +70,8 @@ pub extern "C" fn desk_rows_quick_pass(
     ensures journal_after { journal.new
         ≡ (rows_quick_passed_of code (pass_over start end stamp) (state_of image.old journal.old used)).journal }
 {
-    desk::quick_passes::desk_rows_quick_pass(code, image, start, end, journal, used, stamp)
+    let over = Pass { start, end, stamp };
+    questions::quick_pass(code, over, image, journal, used)
 }
 
 // As `desk_wide_rows_pass`.
@@ -88,5 +92,6 @@ pub extern "C" fn desk_wide_rows_quick_pass(
     ensures journal_after { journal.new
         ≡ (wide_rows_quick_passed_of code (pass_over start end stamp) (state_of image.old journal.old used)).journal }
 {
-    desk::quick_passes::desk_wide_rows_quick_pass(code, image, start, end, journal, used, stamp)
+    let over = Pass { start, end, stamp };
+    questions::quick_pass(code, over, image, journal, used)
 }

@@ -4,10 +4,11 @@ ghost use Rattle.asked.specs.Pass.{pass_over, state_of};
 ghost use Rattle.desk.specs.Rows.{rows_judgement_of, rows_balance_of, rows_written_of, rows_read_of, rows_explained_of, rows_cards_of, rows_passed_of};
 ghost use Rattle.desk.specs.Rows.{rows_recovered_of, rows_bad_places_of};
 
+use asked::Pass;
 use balance::RowBalance;
 use card_check::CardCheck;
 use code::Refusal;
-use desk::{BadPlaces, ReadWord, Recovered};
+use desk::{BadPlaces, ReadWord, Recovered, word_with};
 use explain::Listing;
 use pass::PassAnswer;
 use rows::RowCode;
@@ -18,7 +19,7 @@ use writing::CheckWord;
 pub extern "C" fn desk_rows_judge(code: RowCode) -> Refusal
     ensures { result ≡ rows_judgement_of code }
 {
-    desk::row_sets::desk_rows_judge(code)
+    questions::judge(code)
 }
 
 // Row balance, over all n columns.
@@ -26,7 +27,7 @@ pub extern "C" fn desk_rows_judge(code: RowCode) -> Refusal
 pub extern "C" fn desk_rows_row_balance(code: RowCode) -> RowBalance
     ensures { result ≡ rows_balance_of code }
 {
-    desk::row_sets::desk_rows_row_balance(code)
+    questions::row_balance(code)
 }
 
 // Writing: the check bits are solved for.
@@ -34,7 +35,7 @@ pub extern "C" fn desk_rows_row_balance(code: RowCode) -> RowBalance
 pub extern "C" fn desk_rows_write(code: RowCode, data: u64) -> CheckWord
     ensures { result ≡ rows_written_of code «data» }
 {
-    desk::row_sets::desk_rows_write(code, data)
+    questions::write(code, data, 0)
 }
 
 // Reading.
@@ -42,7 +43,7 @@ pub extern "C" fn desk_rows_write(code: RowCode, data: u64) -> CheckWord
 pub extern "C" fn desk_rows_read(code: RowCode, data: u64, check: u16) -> ReadWord
     ensures { result ≡ rows_read_of code «data» check }
 {
-    desk::row_sets::desk_rows_read(code, data, check)
+    ReadWord::from(questions::read(code, word_with(data, check)))
 }
 
 // Explanations.
@@ -57,7 +58,7 @@ pub extern "C" fn desk_rows_explain(
     ensures value { result ≡ (rows_explained_of code «data» check limit list.old).answer }
     ensures list_after { list.new ≡ (rows_explained_of code «data» check limit list.old).list }
 {
-    desk::row_sets::desk_rows_explain(code, data, check, limit, list)
+    questions::explain(code, word_with(data, check), limit, list)
 }
 
 // The card check.
@@ -65,7 +66,7 @@ pub extern "C" fn desk_rows_explain(
 pub extern "C" fn desk_rows_cards(code: RowCode, b: usize) -> CardCheck
     ensures { result ≡ rows_cards_of code b }
 {
-    desk::row_sets::desk_rows_cards(code, b)
+    questions::cards(code, b)
 }
 
 // The pass.
@@ -85,7 +86,8 @@ pub extern "C" fn desk_rows_pass(
     ensures journal_after { journal.new
         ≡ (rows_passed_of code (pass_over start end stamp) (state_of image.old journal.old used)).journal }
 {
-    desk::row_sets::desk_rows_pass(code, image, start, end, journal, used, stamp)
+    let over = Pass { start, end, stamp };
+    questions::pass(code, over, image, journal, used)
 }
 
 // Places known to be bad.
@@ -98,7 +100,7 @@ pub extern "C" fn desk_rows_recover(
 ) -> Recovered
     ensures { result ≡ rows_recovered_of code «data» check bad.now }
 {
-    desk::row_sets::desk_rows_recover(code, data, check, bad)
+    Recovered::from(questions::recover(code, word_with(data, check), bad))
 }
 
 // The finder.
@@ -112,5 +114,7 @@ pub extern "C" fn desk_rows_find_bad(
 ) -> BadPlaces
     ensures { result ≡ rows_bad_places_of code first_data first_check second_data second_check }
 {
-    desk::row_sets::desk_rows_find_bad(code, first_data, first_check, second_data, second_check)
+    let first = word_with(first_data, first_check);
+    let second = word_with(second_data, second_check);
+    BadPlaces::from(questions::find_bad(code, first, second))
 }

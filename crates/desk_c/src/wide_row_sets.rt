@@ -5,6 +5,7 @@ ghost use Rattle.desk.specs.Wide.{wide_word};
 ghost use Rattle.desk.specs.Rows.{wide_rows_judgement_of, wide_rows_balance_of, wide_rows_written_of, wide_rows_read_of, wide_rows_explained_of, wide_rows_cards_of, wide_rows_passed_of};
 ghost use Rattle.desk.specs.Rows.{wide_rows_recovered_of, wide_rows_bad_places_of};
 
+use asked::Pass;
 use balance::RowBalance;
 use card_check::CardCheck;
 use code::Refusal;
@@ -22,7 +23,7 @@ use writing::CheckWord;
 pub extern "C" fn desk_wide_rows_judge(code: WideRowCode) -> Refusal
     ensures { result ≡ wide_rows_judgement_of code }
 {
-    desk::wide_row_sets::desk_wide_rows_judge(code)
+    questions::judge(code)
 }
 
 // Row balance, over all n columns.
@@ -30,7 +31,7 @@ pub extern "C" fn desk_wide_rows_judge(code: WideRowCode) -> Refusal
 pub extern "C" fn desk_wide_rows_row_balance(code: WideRowCode) -> RowBalance
     ensures { result ≡ wide_rows_balance_of code }
 {
-    desk::wide_row_sets::desk_wide_rows_row_balance(code)
+    questions::row_balance(code)
 }
 
 // Writing: the check bits are solved for.
@@ -38,7 +39,7 @@ pub extern "C" fn desk_wide_rows_row_balance(code: WideRowCode) -> RowBalance
 pub extern "C" fn desk_wide_rows_write(code: WideRowCode, low: u64, high: u64) -> CheckWord
     ensures { result ≡ wide_rows_written_of code low high }
 {
-    desk::wide_row_sets::desk_wide_rows_write(code, low, high)
+    questions::write(code, low, high)
 }
 
 // Reading.
@@ -46,7 +47,7 @@ pub extern "C" fn desk_wide_rows_write(code: WideRowCode, low: u64, high: u64) -
 pub extern "C" fn desk_wide_rows_read(code: WideRowCode, low: u64, high: u64, check: u16) -> Reading
     ensures { result ≡ wide_rows_read_of code low high check }
 {
-    desk::wide_row_sets::desk_wide_rows_read(code, low, high, check)
+    questions::read(code, Word { low, high, check })
 }
 
 // Explanations.
@@ -62,7 +63,8 @@ pub extern "C" fn desk_wide_rows_explain(
     ensures value { result ≡ (wide_rows_explained_of code (wide_word low high check) limit list.old).answer }
     ensures list_after { list.new ≡ (wide_rows_explained_of code (wide_word low high check) limit list.old).list }
 {
-    desk::wide_row_sets::desk_wide_rows_explain(code, low, high, check, limit, list)
+    let word = Word { low, high, check };
+    questions::explain(code, word, limit, list)
 }
 
 // The card check.
@@ -70,7 +72,7 @@ pub extern "C" fn desk_wide_rows_explain(
 pub extern "C" fn desk_wide_rows_cards(code: WideRowCode, b: usize) -> CardCheck
     ensures { result ≡ wide_rows_cards_of code b }
 {
-    desk::wide_row_sets::desk_wide_rows_cards(code, b)
+    questions::cards(code, b)
 }
 
 // The pass.
@@ -91,7 +93,8 @@ pub extern "C" fn desk_wide_rows_pass(
     ensures journal_after { journal.new
         ≡ (wide_rows_passed_of code (pass_over start end stamp) (state_of image.old journal.old used)).journal }
 {
-    desk::wide_row_sets::desk_wide_rows_pass(code, image, start, end, journal, used, stamp)
+    let over = Pass { start, end, stamp };
+    questions::pass(code, over, image, journal, used)
 }
 
 // Places known to be bad.
@@ -105,7 +108,8 @@ pub extern "C" fn desk_wide_rows_recover(
 ) -> Recovery
     ensures { result ≡ wide_rows_recovered_of code (wide_word low high check) bad.now }
 {
-    desk::wide_row_sets::desk_wide_rows_recover(code, low, high, check, bad)
+    let word = Word { low, high, check };
+    questions::recover(code, word, bad)
 }
 
 // The finder.
@@ -113,5 +117,5 @@ pub extern "C" fn desk_wide_rows_recover(
 pub extern "C" fn desk_wide_rows_find_bad(code: WideRowCode, first: Word, second: Word) -> Found
     ensures { result ≡ wide_rows_bad_places_of code first second }
 {
-    desk::wide_row_sets::desk_wide_rows_find_bad(code, first, second)
+    questions::find_bad(code, first, second)
 }

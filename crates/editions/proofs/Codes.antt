@@ -9,10 +9,9 @@ use Rattle.parity.specs.Odd.{odd_in}
 use Rattle.columns.specs.Mix.{column}
 use Rattle.columns.specs.Sound.{Sound}
 use Rattle.code.specs.declared.Opened.{Opened}
-use Rattle.code.specs.declared.Standing.{Standing}
-use Rattle.code.specs.declared.Standing.TheVariants as standing
+use Rattle.std.specs.Prelude.{Ok, Err}
 use Rattle.judge.specs.Rule.{Limits}
-use Rattle.code.specs.Opened.{judgement_by, laid_out, opened_by, columns_of, Laid, SoundOpened}
+use Rattle.code.specs.Opened.{Standing, judgement_by, laid_out, opened_by, columns_of, Laid, SoundOpened}
 use Rattle.code.proofs.Laid.{laid_by}
 use Rattle.code.proofs.Laying.{laid_columns}
 use Rattle.sound.proofs.Hsiao as hub
@@ -22,14 +21,14 @@ use Rattle.editions.specs.Given as words
 use Rattle.editions.specs.Given.{Given, standing_for, opened, set_of, matrix_of, data_columns, places_of, judgement_of, Refused, Handed}
 use Rattle.editions.proofs.Families.{zero-stands, limits_by, below_by, sound_by, front_by}
 
-refusal-stands : (s : Standing) → (judgement_by s).number ≢ 0 → s ≡ standing.Refused (judgement_by s)
-refusal-stands standing.Accepted n = absurd (n refl)
-refusal-stands (standing.Refused f) n = refl
+refusal-stands : (s : Standing) → (judgement_by s).number ≢ 0 → s ≡ Err (judgement_by s)
+refusal-stands (Ok u) n = absurd (n refl)
+refusal-stands (Err f) n = refl
 
 module _ (code : Given) where
   opened_standing : (s : Standing) (cs : List ℕ) (k rows : ℕ) → (opened_by s cs k rows).standing ≡ s
-  opened_standing standing.Accepted cs k rows = refl
-  opened_standing (standing.Refused f) cs k rows = refl
+  opened_standing (Ok u) cs k rows = refl
+  opened_standing (Err f) cs k rows = refl
 
   -- the judge's answer, as the desk gives it
   pub standing_is : (opened code).standing ≡ standing_for code
@@ -38,17 +37,17 @@ module _ (code : Given) where
   pub judgement_is : judgement_of code ≡ judgement_by (standing_for code)
   judgement_is = ap judgement_by standing_is
 
-  pub standing_refused : Refused code → (opened code).standing ≡ standing.Refused (judgement_of code)
+  pub standing_refused : Refused code → (opened code).standing ≡ Err (judgement_of code)
   standing_refused n = refusal-stands (opened code).standing n
 
   -- what an accepted code is opened to
   module _ (e : (judgement_of code).number ≡ 0) where
-    pub stands : standing_for code ≡ standing.Accepted
+    pub stands : standing_for code ≡ Ok tt
     stands =
         zero-stands code.family code.edition.places code.columns code.k code.r
         (sym (ap (λ f. f.number) judgement_is) ∙ e)
 
-    pub standing-accepted : (opened code).standing ≡ standing.Accepted
+    pub standing-accepted : (opened code).standing ≡ Ok tt
     standing-accepted = standing_is ∙ stands
 
     pub opened-is : opened code ≡ laid_out (matrix_of code) code.k (set_of code)
@@ -68,7 +67,7 @@ module _ (code : Given) where
 
 -- a code with all its places
 module _ (code : Given) (h : Handed code) where
-  sound_accepted : standing_for code ≡ standing.Accepted → Sound (odd_in (set_of code)) (matrix_of code) code.k code.r
+  sound_accepted : standing_for code ≡ Ok tt → Sound (odd_in (set_of code)) (matrix_of code) code.k code.r
   sound_accepted = sound_by code.edition.places code.columns code.k code.r code.family h.places
 
 -- an accepted code as it is handed about

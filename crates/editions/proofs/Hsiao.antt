@@ -4,9 +4,8 @@ use native.Mathlib.Omega.{arith}
 use lib.ListN.{length, take, drop}
 use lib.Seq.{length-take-le, drop_at}
 use Rattle.columns.specs.Mix.{singles}
-use Rattle.judge.specs.declared.Judged.{Judged}
-use Rattle.judge.specs.declared.Judged.TheVariants.{Accepted}
-use Rattle.judge.specs.Judge.{judge_in}
+use Rattle.std.specs.Prelude.{Ok}
+use Rattle.judge.specs.Judge.{Judged, judge_in}
 use Rattle.judge.specs.Rule.{Hsiao}
 use Rattle.code.proofs.Numbers.{zero_accepts}
 use Rattle.judge.proofs.Table.{judge_rule}
@@ -17,7 +16,7 @@ use Rattle.editions.proofs.Codes.{judgement_is, limits_of}
 abbrev pub judge_of : HsiaoCode → Judged
 judge_of code = judge_in code.edition.places code.columns code.k code.r
 
-pub judged_of : (code : HsiaoCode) → (judgement_of (given code)).number ≡ 0 → judge_of code ≡ Accepted
+pub judged_of : (code : HsiaoCode) → (judgement_of (given code)).number ≡ 0 → judge_of code ≡ Ok tt
 judged_of code e = zero_accepts (judge_of code) (sym (ap (λ f. f.number) (judgement_is (given code))) ∙ e)
 
 module _ (code : HsiaoCode) (a : words.Accepted (given code)) where

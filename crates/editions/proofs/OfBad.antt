@@ -24,8 +24,7 @@ use Rattle.verdict.specs.Verdicts.{finding_of}
 use Rattle.mending.proofs.Parts.{number_of_parts, parts_of_number, parts_unstrayed}
 use Rattle.mending.proofs.Reading.{data_inside, mended_number}
 use Rattle.explained.proofs.Explanations.{clean_exactly}
-use Rattle.reach.specs.declared.Reached.{Reached}
-use Rattle.reach.specs.declared.Reached.TheVariants.{Nothing, Proper}
+use Rattle.std.specs.Prelude.{Option, Some, None}
 use Rattle.reach.specs.Places.{stands, wrong_places}
 use Rattle.reach.proofs.Places.{right-places}
 use Rattle.recover.specs.declared.Recovery.{Recovery}
@@ -52,7 +51,7 @@ use Rattle.editions.proofs.OfWords.{stray_is, strayed}
 use Rattle.editions.proofs.OfWords as of_words
 
 -- what a reached word is answered by
-abbrev answer_to : Reached → Recovery
+abbrev answer_to : Option Word → Recovery
 answer_to x = recovering.recovered_by x
 
 module _ (code : Given) (a : Accepted code) where
@@ -87,7 +86,7 @@ module _ (code : Given) (a : Accepted code) where
       right_is : wrong_places (length cs) bad ≡ false
       right_is = ap (λ (n : ℕ). wrong_places n bad) (places-length code a) ∙ right_exactly (places_of code) bad right
 
-      abbrev reached : Reached
+      abbrev reached : Option Word
       reached = first_of code.k (proper_words rows cs code.k w bad)
 
       recover-reached : recover code w bad ≡ answer_to reached
@@ -139,13 +138,13 @@ module _ (code : Given) (a : Accepted code) where
       given-found : (u : ℕ) → Recoverable code w bad u → recover code w bad ≡ given_back code u
       given-found u x = recover-reached ∙ ap answer_to (within-found rows (sound_of code a) w bad inside right_is u (within u x))
 
-      found-given : (x : Reached) → reached ≡ x → (u : ℕ) → recover code w bad ≡ given_back code u → Recoverable code w bad u
-      found-given Nothing e u h =
+      found-given : (x : Option Word) → reached ≡ x → (u : ℕ) → recover code w bad ≡ given_back code u → Recoverable code w bad u
+      found-given None e u h =
           let z : ◌≡◌ {A = ℕ} 23 0 = ap (λ (y : Recovery). y.number) (sym (recover-reached ∙ ap answer_to e) ∙ h) in
           absurd (omega arith)
-      found-given (Proper x) e u h =
+      found-given (Some x) e u h =
           let i = found_within rows (sound_of code a) w bad inside right_is x e in
-          let same = given_tells i.0 u (sym (recover-reached ∙ ap answer_to (e ∙ ap Proper i.2)) ∙ h) in
+          let same = given_tells i.0 u (sym (recover-reached ∙ ap answer_to (e ∙ ap Some i.2)) ∙ h) in
           subst (Recoverable code w bad) same (recoverable i.0 i.1)
 
       none-given : recover code w bad ≡ refused_recovered (only_number 23) → (u : ℕ) → ¬ (Recoverable code w bad u)
@@ -159,18 +158,18 @@ module _ (code : Given) (a : Accepted code) where
           ∙ ap answer_to ((none_found rows (sound_of code a) w bad inside right_is).0 (λ u x. h u (recoverable u x)))
 
       -- 23, or a word that is handed back
-      pub one_of_two : (x : Reached) → reached ≡ x
+      pub one_of_two : (x : Option Word) → reached ≡ x
           → (recover code w bad ≡ refused_recovered (only_number 23))
           ⊎ ((u : ℕ) × (recover code w bad ≡ given_back code u) × Recoverable code w bad u)
-      one_of_two Nothing e = inl (recover-reached ∙ ap answer_to e)
-      one_of_two (Proper x) e =
+      one_of_two None e = inl (recover-reached ∙ ap answer_to e)
+      one_of_two (Some x) e =
           let i = found_within rows (sound_of code a) w bad inside right_is x e in
-          inr (i.0, recover-reached ∙ ap answer_to (e ∙ ap Proper i.2), recoverable i.0 i.1)
+          inr (i.0, recover-reached ∙ ap answer_to (e ∙ ap Some i.2), recoverable i.0 i.1)
 
-      either : (x : Reached) → reached ≡ x
+      either : (x : Option Word) → reached ≡ x
           → (recover code w bad ≡ refused_recovered (only_number 23)) ⊎ (((recover code w bad).number ≡ 0) × ((recover code w bad).told ≡ 0))
-      either Nothing e = inl (recover-reached ∙ ap answer_to e)
-      either (Proper x) e =
+      either None e = inl (recover-reached ∙ ap answer_to e)
+      either (Some x) e =
           let y = recover-reached ∙ ap answer_to e in
           inr (ap (λ (v : Recovery). v.number) y, ap (λ (v : Recovery). v.told) y)
 
@@ -251,7 +250,7 @@ module _ (code : Given) (a : Accepted code) (w : ℕ) (fits : Unstrayed code w) 
       recover-reached code a w fits [] (none_right (places_of code))
       ∙ ap answer_to (none_bad (set_of code) (sound_of code a) w (inside code a w fits) ∙ ap (λ (x : Verdict). read_back x code.k w) e)
 
-  mended_is : (v : Verdict) → verdict_at code a w ≡ v → answer_to (Proper (in_parts code.k (mended_number v w))) ≡ as_read
+  mended_is : (v : Verdict) → verdict_at code a w ≡ v → answer_to (Some (in_parts code.k (mended_number v w))) ≡ as_read
   mended_is v e =
       ap (λ (x : Word). record { number = 0; told = 0; word = x }) (sym (answered-as code a w fits v e).hands)
 

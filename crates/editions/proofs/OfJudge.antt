@@ -6,8 +6,9 @@ use native.Mathlib.Omega.{arith}
 use lib.ListN.{length, take}
 use lib.Seq.{length-take-le}
 use Rattle.code.specs.declared.Refusal.{Refusal}
-use Rattle.judge.specs.declared.Judged.{Judged}
-use Rattle.judge.specs.declared.Judged.TheVariants.{Accepted, NoData, NoChecks, TooWide, EvenColumn, SingleOne, Repeated, Leftover}
+use Rattle.std.specs.Prelude.{Ok, Err}
+use Rattle.judge.specs.Judge.{Judged}
+use Rattle.judge.specs.declared.Flaw.TheVariants.{NoData, NoChecks, TooWide, EvenColumn, SingleOne, Repeated, Leftover}
 use Rattle.judge.specs.Rule.{SaysOfCode}
 use Rattle.code.specs.Opened.{standing_of, judgement_by}
 use Rattle.code.proofs.Numbers.{judged_by, known_by}
@@ -69,12 +70,12 @@ answer_exactly code v =
 
 pub judged_exactly : (code : HsiaoCode) → promises.JudgedExactly code
 judged_exactly code = (
-  answer_exactly code Accepted,
-  answer_exactly code NoData,
-  answer_exactly code NoChecks,
-  λ i. answer_exactly code (TooWide i),
-  λ i. answer_exactly code (EvenColumn i),
-  λ i. answer_exactly code (SingleOne i),
-  λ i. answer_exactly code (Repeated i),
-  λ i. answer_exactly code (Leftover i),
+  answer_exactly code (Ok tt),
+  answer_exactly code (Err NoData),
+  answer_exactly code (Err NoChecks),
+  λ i. answer_exactly code (Err (TooWide i)),
+  λ i. answer_exactly code (Err (EvenColumn i)),
+  λ i. answer_exactly code (Err (SingleOne i)),
+  λ i. answer_exactly code (Err (Repeated i)),
+  λ i. answer_exactly code (Err (Leftover i)),
 )

@@ -8,7 +8,7 @@ use native.Mathlib.Omega.{arith}
 use lib.ListN.{length, take, drop}
 use Rattle.columns.specs.Mix.{mix, flipped}
 use Rattle.code.specs.declared.Opened.{Opened}
-use Rattle.code.specs.declared.Standing.TheVariants as standing
+use Rattle.std.specs.Prelude.{Ok}
 use Rattle.code.specs.Opened.{columns_of}
 use Rattle.code.proofs.Laying.{laid_columns}
 use Rattle.word.specs.declared.Word.{Word}
@@ -73,7 +73,7 @@ explaining_refuses code x limit list =
     let same : Accepted code → sets_of o x limit ≡ sets = λ a. sets_are code x limit list a.number in
     let df = data_fits code x limit list in
     let cf = check_fits code x limit list in
-    let up : Accepted code → (opened code).standing ≡ standing.Accepted = λ a. standing-accepted code a.number in
+    let up : Accepted code → (opened code).standing ≡ Ok tt = λ a. standing-accepted code a.number in
     let len = long code x limit list in (
       λ h. apart code x limit list _ (answer_refused o x limit list (judgement_of code) (standing_refused code h)),
       λ a h. apart code x limit list _ (answer-stray o x limit list (up a) (len a) (stray-bits code x limit list a h)),

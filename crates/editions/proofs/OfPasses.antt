@@ -11,10 +11,8 @@ use lib.ListN.{length}
 use lib.Pow.{pow_mono}
 use Rattle.parity.proofs.Ones.{below_or_not}
 use Rattle.columns.specs.Mix.{column}
-use Rattle.code.specs.declared.Standing.{Standing}
-use Rattle.code.specs.declared.Standing.TheVariants as standing
-use Rattle.code.specs.Opened.{judgement_by, columns_of}
-use Rattle.code.proofs.Laid.{refused_no_acceptance}
+use Rattle.std.specs.Prelude.{Ok}
+use Rattle.code.specs.Opened.{Standing, judgement_by, columns_of}
 use Rattle.word.specs.declared.Word.{Word}
 use Rattle.verdict.specs.declared.Verdict.{Verdict}
 use Rattle.verdict.specs.declared.Verdict.TheVariants.{Clean, Data, Check, Even, Odd, Stray}
@@ -31,7 +29,8 @@ use Rattle.runs.proofs.Run.{record_drop}
 use Rattle.runs.proofs.Tallies.{tally_same}
 use Rattle.at_record.specs.Outcome as outcome
 use Rattle.at_record.specs.Outcome.{Reader, word_in, seen}
-use Rattle.asked.specs.Pass.{Pass, State, pass_over}
+use Rattle.asked.specs.declared.Pass.{Pass}
+use Rattle.asked.specs.Pass.{State, pass_over}
 use Rattle.pass.specs.Pass.{After, reader_of, count_run}
 use Rattle.pass.proofs.Cases.{refused_with, pass_refused}
 use Rattle.pass.proofs.Answers.{answer_12, answer-14, answer-17, answer-16, answer-13, answer-done}
@@ -73,13 +72,13 @@ module _ (code : Given) (p : Pass) (s : State) where
       let f = ap (λ x. x.number) (by_code (λ z. omega arith)).answer in absurd (omega arith))
       (below_or_not (judgement_of code).number 1)
 
-  pub done_standing : Done code p s → (opened code).standing ≡ standing.Accepted
+  pub done_standing : Done code p s → (opened code).standing ≡ Ok tt
   done_standing e = standing-accepted code (done_number e)
 
 pub pass_refuses : (code : Given) → promises.PassRefuses code
 pass_refuses code p s =
     let o = opened code in
-    let up : Accepted code → o.standing ≡ standing.Accepted = λ c. standing-accepted code c.number in (
+    let up : Accepted code → o.standing ≡ Ok tt = λ c. standing-accepted code c.number in (
       by_code code p s,
       λ c n. refused_as code p s 12 0 (answer_12 o code.edition.bytes p s (up c) n),
       λ c i n. refused_as code p s 14 0 (answer-14 o code.edition.bytes p s (up c) i n),
@@ -272,7 +271,8 @@ pass_applied code p s small done =
 -- a refused code tells a number
 pub known : (code : Given) → stamps.Known (opened code)
 known code g e z =
-    refused_no_acceptance (sym e ∙ standing-accepted code (ap (λ (x : Standing). (judgement_by x).number) e ∙ z))
+    let a = standing-accepted code (ap (λ (x : Standing). (judgement_by x).number) e ∙ z) in
+    cc
 
 module _ (e : Edition) where
   abbrev pub step_of : Turn → Step

@@ -11,9 +11,9 @@ use Rattle.parity.proofs.Ones.{below_or_not}
 use Rattle.columns.specs.Mix.{column}
 use Rattle.code.specs.declared.Refusal.{Refusal}
 use Rattle.code.specs.Opened.{judgement_by, opened_by}
-use Rattle.row_judge.specs.declared.JudgedRows.{JudgedRows}
-use Rattle.row_judge.specs.declared.JudgedRows.TheVariants.{Accepted, NoData, NoChecks, TooWide, NoRows, Repeated, NotTriangular, EvenColumn, Leftover}
-use Rattle.row_judge.specs.Judge.{judge_rows_in}
+use Rattle.std.specs.Prelude.{Ok, Err}
+use Rattle.row_judge.specs.declared.RowFlaw.TheVariants.{NoData, NoChecks, TooWide, NoRows, Repeated, NotTriangular, EvenColumn, Leftover}
+use Rattle.row_judge.specs.Judge.{JudgedRows, judge_rows_in}
 use Rattle.judge.specs.Rule.{Limits}
 use Rattle.row_judge.specs.Rule.{Narrow, KeptRows, SaysOfRows}
 use Rattle.row_judge.proofs.Parts.{last_of}
@@ -29,8 +29,8 @@ use Rattle.editions.proofs.Codes.{judgement_is}
 -- ---- n columns are n - r data and r check columns; with fewer than r columns there is no data bit either way
 
 module _ (most : ℕ) (columns : List ℕ) (n r rows : ℕ) where
-  no_data : (m : ℕ) → m ≤ r → judge_rows_in most columns m r rows ≡ NoData
-  no_data m h = says-rows most columns m r rows NoData (inl h)
+  no_data : (m : ℕ) → m ≤ r → judge_rows_in most columns m r rows ≡ Err NoData
+  no_data m h = says-rows most columns m r rows (Err NoData) (inl h)
 
   same_judge : judge_rows_in most columns (n - r + r) r rows ≡ judge_rows_in most columns n r rows
   same_judge =
@@ -74,7 +74,7 @@ module _ (code : ChosenCode) where
         λ s. judgement_of_lem ∙ ap (λ (u : JudgedRows). judgement_by (standing_of_rows u)) (x.1 s),
       )
 
-  number_is : ((judgement_of (chosen_of code)).number ≡ 0) ↔ (judge_of code ≡ Accepted)
+  number_is : ((judgement_of (chosen_of code)).number ≡ 0) ↔ (judge_of code ≡ Ok tt)
   number_is = (
     λ e. zero_accepts (judge_of code) (sym (ap (λ (f : Refusal). f.number) judgement_of_lem) ∙ e),
     λ e. ap (λ (f : Refusal). f.number) (judgement_of_lem ∙ ap (λ (u : JudgedRows). judgement_by (standing_of_rows u)) e),
@@ -82,15 +82,15 @@ module _ (code : ChosenCode) where
 
 pub judged_rows_exactly : (code : ChosenCode) → promises.JudgedRowsExactly code
 judged_rows_exactly code = (
-  answer_exactly code Accepted,
-  answer_exactly code NoData,
-  answer_exactly code NoChecks,
-  λ i. answer_exactly code (TooWide i),
-  answer_exactly code NoRows,
-  answer_exactly code Repeated,
-  answer_exactly code NotTriangular,
-  answer_exactly code EvenColumn,
-  λ i. answer_exactly code (Leftover i),
+  answer_exactly code (Ok tt),
+  answer_exactly code (Err NoData),
+  answer_exactly code (Err NoChecks),
+  λ i. answer_exactly code (Err (TooWide i)),
+  answer_exactly code (Err NoRows),
+  answer_exactly code (Err Repeated),
+  answer_exactly code (Err NotTriangular),
+  answer_exactly code (Err EvenColumn),
+  λ i. answer_exactly code (Err (Leftover i)),
 )
 
 module _ (code : ChosenCode) (handed : Handed (chosen_of code)) where
@@ -109,7 +109,7 @@ module _ (code : ChosenCode) (handed : Handed (chosen_of code)) where
   abbrev most : ℕ
   most = code.edition.places
 
-  rule : (judge_of code ≡ Accepted) ↔ KeptRows most cs n r code.rows
+  rule : (judge_of code ≡ Ok tt) ↔ KeptRows most cs n r code.rows
   rule = rows_rule most cs n r code.rows
 
   -- within the limits the n columns stand in the places

@@ -5,10 +5,9 @@ use Rattle.parity.specs.Odd.{all_rows}
 use Rattle.columns.specs.Mix.{column}
 use Rattle.code.specs.declared.Opened.{Opened}
 use Rattle.code.specs.declared.Refusal.{Refusal}
-use Rattle.code.specs.declared.Standing.{Standing}
 use Rattle.judge.specs.Judge.{judge_in}
 use Rattle.judge.specs.Rule.{matrix}
-use Rattle.code.specs.Opened.{standing_of, judgement_in, opened_by, columns_of}
+use Rattle.code.specs.Opened.{Standing, standing_of, judgement_in, opened_by, columns_of}
 use Rattle.row_judge.specs.Judge.{judge_rows_in}
 use Rattle.rows.specs.Opened.{standing_of_rows}
 use Rattle.wanted.specs.declared.CheckBits.{CheckBits}
@@ -35,7 +34,8 @@ use Rattle.record.specs.Run.{record_at}
 use Rattle.record.specs.Journal.{entries_from}
 use Rattle.at_record.specs.Outcome.{word_in}
 use Rattle.pass.specs.declared.PassAnswer.{PassAnswer}
-use Rattle.asked.specs.Pass.{Pass, State}
+use Rattle.asked.specs.declared.Pass.{Pass}
+use Rattle.asked.specs.Pass.{State}
 use Rattle.pass.specs.Pass.{After, after_pass, reader_of, needed_run}
 use Rattle.passes.specs.Twice.{state_in}
 use Rattle.orders.specs.Orders.{Ends, needed_by_all, Separate, OrderOf, passes_after}

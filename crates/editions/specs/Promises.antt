@@ -1,16 +1,16 @@
 -- THE PROMISES OF AN EDITION, whatever its places and sizes: what the desk promises of a code, of the words, lists and cards under it, and
 -- of images and journals. Given.antt beside this page has the words. Each is a proposition about a code or an edition, proved once; crate
 -- demands says which answers of the exported functions they are about. Assumes nothing.
-use Rattle.std.specs.Prelude.{◌≡◌, ◌≢◌, ◌⊎◌, ◌↔◌, cond, ℕ, ◌+◌, ◌-◌, ◌*◌, ◌/◌, ◌^◌, ◌≤◌, ◌<◌, min, max, ltb, pos, ◌+ℤ◌, length, get_or, take, drop}
+use Rattle.std.specs.Prelude.{◌≡◌, ◌≢◌, ◌⊎◌, ◌↔◌, cond, ℕ, ◌+◌, ◌-◌, ◌*◌, ◌/◌, ◌^◌, ◌≤◌, ◌<◌, min, max, ltb, pos, ◌+ℤ◌, length, get_or, take, drop, Ok, Err}
 use mathlib.Core.List.{List, [], ◌∷◌, Memᴰ}
 use Rattle.std.specs.Int.Bits.{bit_xor}
 use Rattle.std.specs.Int.Count.{ones}
 use Rattle.parity.specs.Odd.{odd_ones, odd_in}
 use Rattle.columns.specs.Mix.{column, mix, flipped}
 use Rattle.columns.specs.Bits.{bit_at, row_bit}
-use Rattle.judge.specs.declared.Judged.TheVariants as judged
+use Rattle.judge.specs.declared.Flaw.TheVariants as flaw
 use Rattle.judge.specs.Rule.{Sized, Limits, SaysOfCode}
-use Rattle.row_judge.specs.declared.JudgedRows.TheVariants as rows
+use Rattle.row_judge.specs.declared.RowFlaw.TheVariants as row_flaw
 use Rattle.row_judge.specs.Rule.{SaysOfRows}
 use Rattle.families.specs.ByRows.{ByRows}
 use Rattle.balance.specs.Balance.{row_ones, all_ones, sumℤ}
@@ -28,7 +28,8 @@ use Rattle.cards.specs.Cards.{card_at}
 use Rattle.cards.specs.Rule.{CardProof, FirstWeak, flip_mask}
 use Rattle.at_record.specs.Outcome.{word_in}
 use Rattle.at_record.specs.Outcome as outcome
-use Rattle.asked.specs.Pass.{Pass, State, pass_over, state_of, stamp_at}
+use Rattle.asked.specs.declared.Pass.{Pass}
+use Rattle.asked.specs.Pass.{State, pass_over, state_of, stamp_at}
 use Rattle.asked.specs.Asked.{Image, NoImage, Run, NoRun, GoesBack, Askable}
 use Rattle.passes.specs.Twice.{added, tally_again}
 use Rattle.orders.specs.Lists.{Rearranged}
@@ -89,14 +90,14 @@ ThreeOnes code = Accepted (given code) → (i : ℕ) → i < code.k → 3 ≤ on
 abbrev pub JudgedExactly : HsiaoCode → Type 0
 JudgedExactly code =
     let says = SaysOfCode code.edition.places code.columns code.k code.r in
-    ((judgement_of (given code) ≡ only_number 0) ↔ says judged.Accepted)
-    × ((judgement_of (given code) ≡ only_number 1) ↔ says judged.NoData)
-    × ((judgement_of (given code) ≡ only_number 2) ↔ says judged.NoChecks)
-    × ((i : ℕ) → (judgement_of (given code) ≡ told 3 i) ↔ says (judged.TooWide i))
-    × ((i : ℕ) → (judgement_of (given code) ≡ told 4 i) ↔ says (judged.EvenColumn i))
-    × ((i : ℕ) → (judgement_of (given code) ≡ told 5 i) ↔ says (judged.SingleOne i))
-    × ((i : ℕ) → (judgement_of (given code) ≡ told 6 i) ↔ says (judged.Repeated i))
-    × ((i : ℕ) → (judgement_of (given code) ≡ told 21 i) ↔ says (judged.Leftover i))
+    ((judgement_of (given code) ≡ only_number 0) ↔ says (Ok tt))
+    × ((judgement_of (given code) ≡ only_number 1) ↔ says (Err flaw.NoData))
+    × ((judgement_of (given code) ≡ only_number 2) ↔ says (Err flaw.NoChecks))
+    × ((i : ℕ) → (judgement_of (given code) ≡ told 3 i) ↔ says (Err (flaw.TooWide i)))
+    × ((i : ℕ) → (judgement_of (given code) ≡ told 4 i) ↔ says (Err (flaw.EvenColumn i)))
+    × ((i : ℕ) → (judgement_of (given code) ≡ told 5 i) ↔ says (Err (flaw.SingleOne i)))
+    × ((i : ℕ) → (judgement_of (given code) ≡ told 6 i) ↔ says (Err (flaw.Repeated i)))
+    × ((i : ℕ) → (judgement_of (given code) ≡ told 21 i) ↔ says (Err (flaw.Leftover i)))
 
 -- Of codes with a chosen set of rows. Accepted exactly: k = n - r is 1 to the edition's places, r is 3 to 16, each of the n columns is
 -- below 2 ^ r, the set is not empty and names no row at r or above, no column is zero and no two are equal, the last r are triangular with ones
@@ -121,15 +122,15 @@ abbrev pub JudgedRowsExactly : ChosenCode → Type 0
 JudgedRowsExactly code =
     let says = SaysOfRows code.edition.places code.columns code.n code.r code.rows in
     let judgement = judgement_of (chosen_of code) in
-    ((judgement ≡ only_number 0) ↔ says rows.Accepted)
-    × ((judgement ≡ only_number 1) ↔ says rows.NoData)
-    × ((judgement ≡ only_number 2) ↔ says rows.NoChecks)
-    × ((i : ℕ) → (judgement ≡ told 3 i) ↔ says (rows.TooWide i))
-    × ((judgement ≡ told 20 1) ↔ says rows.NoRows)
-    × ((judgement ≡ told 20 2) ↔ says rows.Repeated)
-    × ((judgement ≡ told 20 3) ↔ says rows.NotTriangular)
-    × ((judgement ≡ told 20 4) ↔ says rows.EvenColumn)
-    × ((i : ℕ) → (judgement ≡ told 21 i) ↔ says (rows.Leftover i))
+    ((judgement ≡ only_number 0) ↔ says (Ok tt))
+    × ((judgement ≡ only_number 1) ↔ says (Err row_flaw.NoData))
+    × ((judgement ≡ only_number 2) ↔ says (Err row_flaw.NoChecks))
+    × ((i : ℕ) → (judgement ≡ told 3 i) ↔ says (Err (row_flaw.TooWide i)))
+    × ((judgement ≡ told 20 1) ↔ says (Err row_flaw.NoRows))
+    × ((judgement ≡ told 20 2) ↔ says (Err row_flaw.Repeated))
+    × ((judgement ≡ told 20 3) ↔ says (Err row_flaw.NotTriangular))
+    × ((judgement ≡ told 20 4) ↔ says (Err row_flaw.EvenColumn))
+    × ((i : ℕ) → (judgement ≡ told 21 i) ↔ says (Err (row_flaw.Leftover i)))
 
 -- Check bits wanted is refused by 1 exactly for k 0 and k over the places, and hands back no bits then.
 abbrev pub CheckBitsRefused : Edition → Type 0

@@ -3,13 +3,11 @@ use mathlib.Core.Path.{◌≡◌, sym, ap, ap₂, ◌∙◌}
 use mathlib.Core.List.{List, ◌++◌}
 use Prim.Native.Nat.{ℕ, ◌+◌, ◌-◌, ◌*◌, ◌/◌, ◌%◌, ◌^◌, ◌≤◌, ◌<◌}
 use native.Mathlib.Omega.{arith}
-use lib.Bits.{xor_zero_r}
-use lib.ListN.{length, get_or, set, take, drop, take-append-drop}
-use lib.Seq.{length-take-le, take-append-le, take-take, set-get_or}
+use lib.ListN.{length, take, drop, take-append-drop}
+use lib.Seq.{length-take-le, take-append-le, take-take}
 use Rattle.record.specs.Turned.{turned}
-use Rattle.verdict.specs.declared.Verdict.{Verdict}
 use Rattle.verdict.specs.declared.Verdict.TheVariants.{Data, Check}
-use Rattle.at_record.specs.Outcome.{Held, left_by}
+use Rattle.at_record.specs.Outcome.{Held}
 use Rattle.at_record.proofs.Mends.{turned_data, turned_check}
 use Rattle.entering.specs.Turns.{turned_at, Leaves}
 
@@ -37,11 +35,4 @@ module _ (d k : ℕ) (held : Held d k) where
       record {
         inside = omega arith;
         left = λ rec bytes n. ap₂ (λ (x y : ℕ). turned_at x y rec) e f ∙ turned_check d k held rec bytes n p l h;
-      }
-
-  pub none_leaves : (v : Verdict) (at bits : ℕ) → ((rec : List ℕ) → rec ≡ left_by d k v rec) → at ≡ 0 → bits ≡ 0 → Leaves d k v at bits
-  none_leaves v at bits same e f =
-      record {
-        inside = omega arith;
-        left = λ rec bytes n. ap₂ (λ (x y : ℕ). turned_at x y rec) e f ∙ ap (set rec 0) (xor_zero_r (get_or rec 0 0)) ∙ set-get_or rec 0 0 ∙ same rec;
       }

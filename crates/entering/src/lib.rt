@@ -4,18 +4,20 @@
 ghost use Rattle.std.specs.Prelude.{◌≡◌, ◌+◌, ◌*◌, ◌/◌, ◌%◌, ◌^◌, ◌≤◌, ◌<◌, length};
 ghost use Rattle.record.specs.Bytes.{Put};
 ghost use Rattle.record.specs.Layout.{record_size, entry_size, entry_bytes};
-ghost use Rattle.at_record.specs.Outcome.{Held, left_by, entry_by};
+ghost use Rattle.at_record.specs.Outcome.{left_by, entry_by};
 ghost use Rattle.verdict.specs.Places.{NamesPlace};
 ghost use Rattle.entering.specs.Turns.{turned_at, Leaves};
 
+use at_record::RecordForm;
 use record::{CHECK, HEAD};
-use verdict::Verdict;
+use verdict::{Finding, Verdict};
 use word::Sight;
 
 // Up to eight bytes go at once, as the number that they say.
 const HALF: usize = 8;
 
-// The bytes from `from` up to `to`, no more than eight, are written; those before them stand already.
+// The bytes from `from` up to `to`, no more than eight, are written; those before them stand already. Not by `copy_from_slice`: it asks each
+// time whether the bytes overlap, and an image of damaged records takes a sixth longer.
 fn put_span(part: &mut [u8], rec: &[u8], from: usize, to: usize)
     requires part_len { length part.old ≡ length rec.now }
     requires from_le_to { (from ≤ to) × (to ≤ from + 8) × (to ≤ length rec.now) }
@@ -54,62 +56,51 @@ fn turn_at(p: usize) -> Turn
     Turn { at: p / 8, bits }
 }
 
-fn no_turn() -> Turn
-    ensures { (result.at ≡ 0) × (result.bits ≡ 0) }
-{
-    Turn { at: 0, bits: 0 }
-}
-
 // What a verdict turns: chosen before anything is written, so that both writes have it at hand.
-fn turn_of(d: usize, k: usize, verdict: Verdict) -> Turn
-    requires held { Held d k }
-    requires names_place { NamesPlace k verdict }
-    ensures { Leaves d k verdict result.at result.bits }
+fn turn_of(form: RecordForm, verdict: Verdict) -> Turn
+    requires { NamesPlace form.k verdict }
+    ensures { Leaves form.d form.k verdict result.at result.bits }
 {
     match verdict {
         Verdict::Data(p) => turn_at(p),
-        Verdict::Check(p) => turn_at(8 * d + (p - k)),
-        Verdict::Clean => no_turn(),
-        Verdict::Even => no_turn(),
-        Verdict::Odd => no_turn(),
-        Verdict::Stray => no_turn(),
+        Verdict::Check(p) => turn_at(8 * form.d + (p - form.k)),
+        _ => Turn { at: 0, bits: 0 },
     }
 }
 
-fn turn_byte(bytes: &mut [u8], at: usize, bits: u8)
-    requires { at < length bytes.old }
-    ensures { bytes.new ≡ turned_at at bits bytes.old }
+fn turn_byte(bytes: &mut [u8], turn: Turn)
+    requires { turn.at < length bytes.old }
+    ensures { bytes.new ≡ turned_at turn.at turn.bits bytes.old }
 {
-    bytes[at] = bytes[at] ^ bits;
+    bytes[turn.at] ^= turn.bits;
 }
 
 // A record's bytes as its verdict leaves them.
-fn put_left(part: &mut [u8], rec: &[u8], d: usize, at: usize, bits: u8)
+fn put_left(part: &mut [u8], rec: &[u8], d: usize, turn: Turn)
     requires part_len { length part.old ≡ length rec.now }
     requires rec_len { length rec.now ≡ record_size d }
     requires le_d { (8 ≤ d) × (d ≤ 16) }
-    requires at_bound { at < record_size d }
-    ensures { part.new ≡ turned_at at bits rec.now }
+    requires at_bound { turn.at < record_size d }
+    ensures { part.new ≡ turned_at turn.at turn.bits rec.now }
 {
     put_record(part, rec, d);
-    turn_byte(part, at, bits);
+    turn_byte(part, turn);
 }
 
-// The contract of at_record's `enter`, word for word. The record is copied without a loop, and the second walk alone calls this, so that it
-// becomes a part of its loop.
-pub fn enter(rec: &mut [u8], entry: &mut [u8], d: usize, k: usize, stamp: u32, n: u16, sight: Sight)
-    requires rec_len { length rec.old ≡ record_size d }
-    requires len { length entry.old ≡ entry_size d }
-    requires held { Held d k }
-    requires names_place { NamesPlace k sight.verdict }
-    ensures rec_after { rec.new ≡ left_by d k sight.verdict rec.old }
-    ensures after { entry.new ≡ entry_bytes (entry_by d k stamp n sight.verdict sight.syndrome rec.old) }
+// The contract of at_record's `enter`, word for word, for speed: the record is copied without a loop, and the second walk alone calls this,
+// so that it becomes a part of its loop. One function over both ways would take a trait with more members than this has lines.
+pub fn enter(form: RecordForm, rec: &mut [u8], entry: &mut [u8], stamp: u32, n: u16, sight: Sight)
+    requires rec_len { length rec.old ≡ record_size form.d }
+    requires len { length entry.old ≡ entry_size form.d }
+    requires names_place { NamesPlace form.k sight.verdict }
+    ensures rec_after { rec.new ≡ left_by form.d form.k sight.verdict rec.old }
+    ensures after { entry.new ≡ entry_bytes (entry_by form.d form.k stamp n sight.verdict sight.syndrome rec.old) }
 {
     let middle = HEAD + rec.len();
     let end = middle + rec.len();
     let verdict = sight.verdict;
-    let turned = turn_of(d, k, verdict);
-    let finding = verdict::finding_of(verdict);
+    let turn = turn_of(form, verdict);
+    let finding = Finding::from(verdict);
     record::put_head(
         &mut entry[0..HEAD],
         stamp,
@@ -118,7 +109,7 @@ pub fn enter(rec: &mut [u8], entry: &mut [u8], d: usize, k: usize, stamp: u32, n
         finding.place as u8,
         sight.syndrome,
     );
-    put_record(&mut entry[HEAD..middle], &rec[..], d);
-    put_left(&mut entry[middle..end], &rec[..], d, turned.at, turned.bits);
-    turn_byte(rec, turned.at, turned.bits);
+    put_record(&mut entry[HEAD..middle], rec, form.d);
+    put_left(&mut entry[middle..end], rec, form.d, turn);
+    turn_byte(rec, turn);
 }

@@ -3,33 +3,12 @@
 
 ghost use Rattle.std.specs.Prelude.{◌≡◌, cond, ◌*◌, ◌≤◌, ◌<◌, length};
 ghost use Rattle.record.specs.Layout.{entry_size, entry_in};
-ghost use Rattle.entry_back.specs.Entry.{same_bytes, matches, undone, step_of, stepped_image};
+ghost use Rattle.entry_back.specs.Entry.{matches, undone, step_of, stepped_image};
 
 use record::{CHECK, HEAD, STAMP, VERDICT};
 
-// A step backwards through a journal: the place that it leads to, or that it stopped, since the entry does not match.
-#[derive(Clone, Copy)]
-pub enum Step {
-    Back(usize),
-    Stop,
-}
-
-// Whether two runs of bytes are the same.
-fn same_bytes(left: &[u8], right: &[u8]) -> bool
-    requires { length left.now ≡ length right.now }
-    ensures { result ≡ same_bytes left.now right.now }
-{
-    let mut i = 0;
-    while i < left.len() {
-        if left[i] != right[i] {
-            return false;
-        }
-        i += 1;
-    }
-    true
-}
-
 // What an entry's bytes say is undone where it matches; whether it does.
+#[tactic(auto, unfolding(crate::specs::Entry::same_bytes))]
 fn undo(d: usize, image: &mut [u8], entry: &[u8]) -> bool
     requires d_bound { d ≤ 16 }
     requires len { length entry.now ≡ entry_size d }
@@ -45,28 +24,25 @@ fn undo(d: usize, image: &mut [u8], entry: &[u8]) -> bool
     let end = at + size;
     let middle = HEAD + size;
     let last = middle + size;
-    if same_bytes(&image[at..end], &entry[middle..last]) {
+    let same = image[at..end] == entry[middle..last];
+    if same {
         record::put_bytes(&mut image[at..end], &entry[HEAD..middle]);
-        return true;
     }
-    false
+    same
 }
 
-// The entry before a place of the journal is put back where it matches.
-pub fn entry_back(d: usize, image: &mut [u8], journal: &[u8], place: usize) -> Step
+// The entry before a place of the journal is put back where it matches: the place that this leads to, or none where it does not match.
+pub fn entry_back(d: usize, image: &mut [u8], journal: &[u8], place: usize) -> Option<usize>
     requires d_bound { d ≤ 16 }
     requires place_nonzero { 0 < place }
     requires d_in_bounds { place * entry_size d ≤ length journal.now }
     ensures value { result ≡ step_of d journal.now place image.old }
     ensures image_after { image.new ≡ stepped_image d journal.now place image.old }
 {
-    let step = HEAD + 2 * (d + CHECK);
+    let size = d + CHECK;
+    let step = HEAD + (size + size);
     let n = place - 1;
     let at = n * step;
     let end = at + step;
-    if undo(d, image, &journal[at..end]) {
-        Step::Back(n)
-    } else {
-        Step::Stop
-    }
+    undo(d, image, &journal[at..end]).then_some(n)
 }

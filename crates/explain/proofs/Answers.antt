@@ -7,9 +7,9 @@ use native.Mathlib.Omega.{arith}
 use borrow.Author.Tests.{lt-ltb, le-ltb}
 use lib.ListN.{length}
 use lib.Seq.{length-take-le}
+use Rattle.std.proofs.Common.{Ok, Err}
 use Rattle.code.specs.declared.Opened.{Opened}
 use Rattle.code.specs.declared.Refusal.{Refusal}
-use Rattle.code.specs.declared.Standing.TheVariants as standing
 use Rattle.code.specs.Opened.{columns_of, Laid}
 use Rattle.word.specs.declared.Word.{Word}
 use Rattle.word.specs.Word.{joined, as_number}
@@ -52,10 +52,10 @@ length_columns o laid h = length-take-le o.n o.columns (omega (arith, laid.check
 -- ---- the answers
 
 module _ (o : Opened) (word : Word) (limit : ℕ) (list : List ℕ) where
-  pub answer_refused : (f : Refusal) → o.standing ≡ standing.Refused f → explain_of o word limit list ≡ said f.number f.told 0 list
+  pub answer_refused : (f : Refusal) → o.standing ≡ Err f → explain_of o word limit list ≡ said f.number f.told 0 list
   answer_refused f e = ap (λ s. explain_as s o word limit list) e
 
-  module _ (taken : o.standing ≡ standing.Accepted) (long : length (columns_of o) ≡ o.n) where
+  module _ (taken : o.standing ≡ Ok tt) (long : length (columns_of o) ≡ o.n) where
     accepted : explain_of o word limit list ≡ explain_in o.rows (columns_of o) o.k word limit list
     accepted = ap (λ s. explain_as s o word limit list) taken
 

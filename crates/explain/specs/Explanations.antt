@@ -1,11 +1,9 @@
 -- The explanations of a word: the sets of places whose flips give a word that reads clean. The answer that lists them, with rows 7, 11
 -- and 10 of "When the desk says no", and the bytes of the lent list afterwards. Assumes nothing.
-use Rattle.std.specs.Prelude.{Bool, true, false, cond, List, ℕ, ◌/◌, ltb, length}
+use Rattle.std.specs.Prelude.{Bool, true, false, cond, List, ℕ, ◌/◌, ltb, length, Result, Ok, Err}
 use Rattle.code.specs.declared.Opened.{Opened}
 use Rattle.code.specs.declared.Refusal.{Refusal}
-use Rattle.code.specs.declared.Standing.{Standing}
-use Rattle.code.specs.declared.Standing.TheVariants as standing
-use Rattle.code.specs.Opened.{refusal, only, columns_of}
+use Rattle.code.specs.Opened.{Standing, refusal, only, columns_of}
 use Rattle.word.specs.declared.Word.{Word}
 use Rattle.verdict.specs.declared.Verdict.{Verdict}
 use Rattle.verdict.specs.declared.Verdict.TheVariants.{Clean, Data, Check, Even, Odd, Stray}
@@ -65,10 +63,15 @@ explain_in rows cs k w limit list =
     (cond (ltb 2 limit) (refused_by (only 11) list)
     (listed_in (explanations rows cs k (as_number k w) limit) list))
 
+-- an answer, or the refusal told as one
+abbrev pub answered : Result Listing Refusal → Listing
+answered (Ok a) = a
+answered (Err f) = refused_listing f
+
 -- how the code stands decides first
 abbrev pub explain_as : Standing → Opened → Word → ℕ → List ℕ → Explained
-explain_as standing.Accepted o w limit list = explain_in o.rows (columns_of o) o.k w limit list
-explain_as (standing.Refused f) o w limit list = refused_by f list
+explain_as (Ok u) o w limit list = explain_in o.rows (columns_of o) o.k w limit list
+explain_as (Err f) o w limit list = refused_by f list
 
 abbrev pub explain_of : Opened → Word → ℕ → List ℕ → Explained
 explain_of o w limit list = explain_as o.standing o w limit list

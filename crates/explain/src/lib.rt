@@ -3,28 +3,64 @@
 
 ghost use Rattle.std.specs.Prelude.{◌≡◌};
 ghost use Rattle.code.specs.Opened.{Laid, SoundOpened};
-ghost use Rattle.explain.specs.Explanations.{refused_listing, explain_of};
+ghost use Rattle.explain.specs.Explanations.{refused_listing, answered, explain_of};
 
-use code::{Opened, Refusal, Standing};
+use code::{Denial, Opened, Refusal};
 use word::Word;
 
 // The answer: the list's length where it is done; the list itself stands in the lent bytes.
+// It is flat and no Result, and the length stands beside the bytes: C lends and is handed them so (`desk_explain`).
 #[repr(C)]
-#[derive(Clone, Copy)]
+#[derive(Clone, Copy, Default)]
 pub struct Listing {
     pub number: usize,
     pub told: usize,
     pub length: usize,
 }
 
-fn refused_listing(refusal: Refusal) -> Listing
-    ensures { result ≡ refused_listing refusal }
-{
-    Listing {
-        number: refusal.number,
-        told: refusal.told,
-        length: 0,
+impl From<Refusal> for Listing {
+    ghost from_gives = { λ f a. a ≡ refused_listing f };
+
+    fn from(refusal: Refusal) -> Listing {
+        Listing {
+            number: refusal.number,
+            told: refusal.told,
+            ..Listing::default()
+        }
     }
+}
+
+// The explanations of a word under an opened code, listed by its syndrome, or what is refused.
+#[tactic(auto, unfolding(crate::specs::Explanations::explain_in, crate::specs::Explanations::listed_in))]
+fn explain_under(
+    opened: &Opened,
+    word: Word,
+    limit: usize,
+    list: &mut [u8],
+) -> Result<Listing, Refusal>
+    requires laid { Laid opened.now }
+    requires sound_opened { SoundOpened opened.now }
+    ensures value { answered result ≡ (explain_of opened.now word limit list.old).answer }
+    ensures list_after { list.new ≡ (explain_of opened.now word limit list.old).list }
+{
+    opened.standing?;
+    if word.stray_in(opened.n, opened.k) {
+        return Err(Denial::Stray.into());
+    }
+    if limit > 2 {
+        return Err(Denial::LimitPastTwo.into());
+    }
+    let columns = &opened.columns[..opened.n];
+    let s = word.syndrome_in(columns, opened.k);
+    let length = listing::put_list(columns, s, limit, list);
+    if length > list.len() / 2 {
+        return Err(Denial::ListTooLong(length).into());
+    }
+    Ok(Listing {
+        number: 0,
+        told: 0,
+        length,
+    })
 }
 
 // The explanations of a word under an opened code, listed by its syndrome.
@@ -34,33 +70,5 @@ pub fn explain(opened: Opened, word: Word, limit: usize, list: &mut [u8]) -> Lis
     ensures value { result ≡ (explain_of opened word limit list.old).answer }
     ensures list_after { list.new ≡ (explain_of opened word limit list.old).list }
 {
-    let standing = opened.standing;
-    if let Standing::Refused(refusal) = standing {
-        return refused_listing(refusal);
-    }
-    let k = opened.k;
-    let n = opened.n;
-    if word::stray_in(n, k, word) {
-        return refused_listing(Refusal { number: 7, told: 0 });
-    }
-    if limit > 2 {
-        return refused_listing(Refusal {
-            number: 11,
-            told: 0,
-        });
-    }
-    let columns = opened.columns;
-    let s = word::syndrome_in(&columns[..n], k, word);
-    let length = listing::put_list(&columns[..n], s, limit, list);
-    if length > list.len() / 2 {
-        return refused_listing(Refusal {
-            number: 10,
-            told: length,
-        });
-    }
-    Listing {
-        number: 0,
-        told: 0,
-        length,
-    }
+    explain_under(&opened, word, limit, list).unwrap_or_else(Listing::from)
 }

@@ -7,8 +7,8 @@ use native.Mathlib.Nat.{le_of_suc-le-suc, not-suc-le-zero}
 use native.Mathlib.Omega.{arith}
 use lib.Dec.{ltb}
 use lib.ListN.{length, get_or, take, drop}
+use Rattle.std.proofs.Common.{Ok}
 use Rattle.code.specs.declared.Opened.{Opened}
-use Rattle.code.specs.declared.Standing.TheVariants as standing
 use Rattle.code.specs.Opened.{columns_of}
 use Rattle.word.specs.declared.Word.{Word}
 use Rattle.word.specs.Word.{stray_in}
@@ -77,7 +77,7 @@ only-done false true m n list done h = absurd (omega arith)
 only-done false false true n list done h = absurd (omega arith)
 only-done false false false n list done h = refl
 
-pub done_of_zero : (o : Opened) (word : Word) (limit : ℕ) (list : List ℕ) → o.standing ≡ standing.Accepted
+pub done_of_zero : (o : Opened) (word : Word) (limit : ℕ) (list : List ℕ) → o.standing ≡ Ok tt
     → (explain_of o word limit list).answer.number ≡ 0
     → explain_of o word limit list ≡ said 0 0 (length (sets_of o word limit)) (over (bytes_for (sets_of o word limit)) list)
 unfolding explain_in listed_in

@@ -11,16 +11,13 @@ use Rattle.parity.specs.Odd.{odd_ones, odd_in, all_rows}
 use Rattle.parity.proofs.Ones.{zero-ones}
 use Rattle.columns.specs.Mix.{column, singles}
 use Rattle.columns.specs.Sound.{Sound}
-use Rattle.judge.specs.declared.Judged.{Judged}
-use Rattle.judge.specs.declared.Judged.TheVariants as old
-use Rattle.judge.specs.Judge.{judge_in}
+use Rattle.std.specs.Prelude.{Ok}
+use Rattle.judge.specs.Judge.{Judged, judge_in}
 use Rattle.judge.specs.Rule.{matrix}
 use Rattle.code.specs.Opened.{standing_of, opened_by, opened_in}
 use Rattle.judge.proofs.Table.{judge_rule}
 use Rattle.least.proofs.Codes.{length-padded, padded_past}
-use Rattle.row_judge.specs.declared.JudgedRows.{JudgedRows}
-use Rattle.row_judge.specs.declared.JudgedRows.TheVariants.{Accepted}
-use Rattle.row_judge.specs.Judge.{judge_rows_in}
+use Rattle.row_judge.specs.Judge.{JudgedRows, judge_rows_in}
 use Rattle.row_judge.specs.Rule.{Triangular, Chosen, KeptRows}
 use Rattle.rows.specs.Opened.{standing_of_rows, opened_rows_in}
 use Rattle.row_judge.proofs.Table.{rows_rule}
@@ -34,7 +31,7 @@ odd_some rows x o z =
     let none : odd_in rows 0 ≡ 0 = ap odd_ones (and_zero_l rows) ∙ ap (λ (n : ℕ). n % 2) zero-ones in
     omega (arith, sym o ∙ ap (odd_in rows) z)
 
-module _ (most : ℕ) (columns : List ℕ) (k r : ℕ) (e : length columns ≡ most) (h : judge_in most columns k r ≡ old.Accepted) where
+module _ (most : ℕ) (columns : List ℕ) (k r : ℕ) (e : length columns ≡ most) (h : judge_in most columns k r ≡ Ok tt) where
   abbrev cs : List ℕ
   cs = matrix (take k columns) r
 
@@ -86,12 +83,12 @@ module _ (most : ℕ) (columns : List ℕ) (k r : ℕ) (e : length columns ≡ m
     empty = λ i l u. padded_past (most + 16) cs room i (omega (arith, size)) (omega (arith, places_all));
   }
 
-  rows-accepted : judge_rows_in most (row_places most columns k r) (k + r) r (all_rows r) ≡ Accepted
+  rows-accepted : judge_rows_in most (row_places most columns k r) (k + r) r (all_rows r) ≡ Ok tt
   rows-accepted = (rows_rule most (row_places most columns k r) (k + r) r (all_rows r)).1 kept
 
   -- THE SAME OPENED CODE, so the same answer to every question
   pub opened_same : opened_rows_in most (row_places most columns k r) (k + r) r (all_rows r) ≡ opened_in most columns k r
   opened_same =
       ap (λ (v : JudgedRows). opened_by (standing_of_rows v) (take (k + r) (row_places most columns k r)) (k + r - r) (all_rows r)) rows-accepted
-      ∙ ap₂ (λ (l : List ℕ) (m : ℕ). opened_by (standing_of_rows Accepted) l m (all_rows r)) front data_bits
+      ∙ ap₂ (λ (l : List ℕ) (m : ℕ). opened_by (standing_of_rows (Ok tt)) l m (all_rows r)) front data_bits
       ∙ sym (ap (λ (v : Judged). opened_by (standing_of v) cs k (all_rows r)) h)

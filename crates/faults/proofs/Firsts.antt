@@ -6,11 +6,13 @@ use mathlib.Core.List.{List}
 use Prim.Native.Nat.{ℕ, zero, suc, ◌+◌, ◌-◌, ◌≤◌, ◌<◌}
 use native.Mathlib.Numerals.{add-one}
 use native.Mathlib.Omega.{arith}
-use borrow.Author.Tests.{ltb-true, ltb-false}
+use borrow.Author.Tests.{ltb-true, ltb-false, lt-ltb, le-ltb}
+use lib.Dec.{ltb}
 use lib.ListN.{length}
+use Rattle.std.specs.Prelude.{Some, None}
 use Rattle.parity.proofs.Ones.{below_or_not}
 use Rattle.faults.specs.declared.Fault.{Fault}
-use Rattle.faults.specs.Faults.{fault_at, first_from, first_past, first_in, some_in}
+use Rattle.faults.specs.Faults.{fault_at, first_from, first_past, found_past, first_in, some_in}
 
 -- ---- the loop
 
@@ -32,6 +34,30 @@ unfolding first_from
 first_end f cs n i h =
     let e : n - i ≡ 0 = omega arith in
     rw e
+
+-- what the loop answers with the place where it ends, if that is the first
+pub found_at : (f : Fault) (cs : List ℕ) (i p : ℕ) → first_past f cs i ≡ p → p < length cs → Some p ≡ found_past f cs i
+found_at f cs i p e l = simp (e, lt-ltb p (length cs) l)
+
+pub found_none : (f : Fault) (cs : List ℕ) (i p : ℕ) → first_past f cs i ≡ p → length cs ≤ p → None ≡ found_past f cs i
+found_none f cs i p e l = simp (e, le-ltb p (length cs) l)
+
+-- and what that answer says of the first
+module _ (f : Fault) (cs : List ℕ) (i : ℕ) where
+  pub is_found : (p : ℕ) → Some p ≡ found_past f cs i → (ltb (first_past f cs i) (length cs) ≡ true) × (first_past f cs i ≡ p)
+  is_found p e = go (ltb (first_past f cs i) (length cs)) refl e
+    where
+      go : (b : Bool) → ltb (first_past f cs i) (length cs) ≡ b → Some p ≡ cond b (Some (first_past f cs i)) None
+          → (b ≡ true) × (first_past f cs i ≡ p)
+      go true t h = (refl, cc)
+      go false t h = cc
+
+  pub not_found : None ≡ found_past f cs i → ltb (first_past f cs i) (length cs) ≡ false
+  not_found e = go (ltb (first_past f cs i) (length cs)) e
+    where
+      go : (b : Bool) → None ≡ cond b (Some (first_past f cs i)) None → b ≡ false
+      go true h = cc
+      go false h = refl
 
 -- ---- what it says of the places
 

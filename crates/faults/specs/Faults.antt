@@ -1,6 +1,6 @@
 -- What may be wrong at a place of a list of columns, and the first place where it is. Assumes nothing.
 use Prim.{Unit}
-use Rattle.std.specs.Prelude.{Bool, cond, not, ◌||◌, List, ℕ, zero, suc, ◌-◌, ◌%◌, ◌^◌, ◌≤◌, eqb, ltb, leb, length}
+use Rattle.std.specs.Prelude.{Bool, cond, not, ◌||◌, List, ℕ, zero, suc, ◌-◌, ◌%◌, ◌^◌, ◌≤◌, eqb, ltb, leb, length, Option, Some, None}
 use Rattle.std.specs.Int.Bits.{bit_xor}
 use Rattle.parity.specs.Odd.{odd_in}
 use Rattle.columns.specs.Mix.{column, place_in}
@@ -29,6 +29,10 @@ first_from f cs (suc n) i = cond (fault_at f cs i) i (first_from f cs n (suc i))
 -- from place i up to the end of the list
 unfoldable pub first_past : Fault → List ℕ → ℕ → ℕ
 first_past f cs i = first_from f cs (length cs - i) i
+
+-- that place, where the list has one
+abbrev pub found_past : Fault → List ℕ → ℕ → Option ℕ
+found_past f cs i = cond (ltb (first_past f cs i) (length cs)) (Some (first_past f cs i)) None
 
 -- of the whole list
 abbrev pub first_in : Fault → List ℕ → ℕ

@@ -1,12 +1,10 @@
 -- The finder of bad places: from two reads after a pattern and its complement were written, the places where the two agree, as ones in a
 -- word; and row 7 of the refusals. Assumes nothing.
-use Rattle.std.specs.Prelude.{cond, List, ℕ, ◌-◌, ◌^◌, length}
+use Rattle.std.specs.Prelude.{cond, List, ℕ, ◌-◌, ◌^◌, length, Result, Ok, Err}
 use Rattle.std.specs.Int.Bits.{bit_xor}
 use Rattle.code.specs.declared.Opened.{Opened}
 use Rattle.code.specs.declared.Refusal.{Refusal}
-use Rattle.code.specs.declared.Standing.{Standing}
-use Rattle.code.specs.declared.Standing.TheVariants as standing
-use Rattle.code.specs.Opened.{only, columns_of}
+use Rattle.code.specs.Opened.{Standing, only, columns_of}
 use Rattle.word.specs.declared.Word.{Word}
 use Rattle.word.specs.Word.{as_number, in_parts, stray_in}
 use Rattle.finder.specs.declared.Found.{Found}
@@ -35,10 +33,15 @@ find_in cs k first second =
     (cond (stray_in (length cs) k second) (refused_found (only 7))
     (record { number = 0; told = 0; word = in_parts k (agreeing (length cs) (as_number k first) (as_number k second)) }))
 
+-- an answer, or the refusal told as one
+abbrev pub answered : Result Found Refusal → Found
+answered (Ok a) = a
+answered (Err f) = refused_found f
+
 -- how the code stands decides first
 abbrev pub find_as : Standing → Opened → Word → Word → Found
-find_as standing.Accepted o first second = find_in (columns_of o) o.k first second
-find_as (standing.Refused f) o first second = refused_found f
+find_as (Ok u) o first second = find_in (columns_of o) o.k first second
+find_as (Err f) o first second = refused_found f
 
 abbrev pub find_of : Opened → Word → Word → Found
 find_of o first second = find_as o.standing o first second

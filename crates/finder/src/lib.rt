@@ -4,21 +4,21 @@
 ghost use Rattle.std.specs.Prelude.{◌≡◌, ◌+◌, ◌-◌, ◌^◌, ◌≤◌};
 ghost use Rattle.code.specs.Opened.{Laid};
 ghost use Rattle.word.specs.Word.{in_parts};
-ghost use Rattle.finder.specs.Finder.{every_place, xor_words, refused_found, find_of};
+ghost use Rattle.finder.specs.Finder.{every_place, xor_words, refused_found, answered, find_of};
 
-use code::{Opened, Refusal, Standing};
+use code::{Denial, Opened, Refusal};
 use word::Word;
 
 // A number of `width` ones, at most 64.
+#[tactic(auto, using(columns::proofs::Words::shl_one))]
 fn ones(width: usize) -> u64
     requires { width ≤ 64 }
     ensures { result ≡ every_place width }
 {
     if width == 64 {
-        return 18446744073709551615;
+        return u64::MAX;
     }
-    let top = 1u64 << width;
-    top - 1
+    (1 << width) - 1
 }
 
 // A word of n places, k of them data, with a one in each.
@@ -27,16 +27,9 @@ fn every_place(n: usize, k: usize) -> Word
     ensures { result ≡ in_parts k (every_place n) }
 {
     let check = ones(n - k) as u16;
-    if k <= 64 {
-        return Word {
-            low: ones(k),
-            high: 0,
-            check,
-        };
-    }
     Word {
-        low: ones(64),
-        high: ones(k - 64),
+        low: ones(k.min(64)),
+        high: ones(k.saturating_sub(64)),
         check,
     }
 }
@@ -51,27 +44,43 @@ fn xored(a: Word, b: Word) -> Word
     }
 }
 
-// The answer: the bad places as ones, none where it is refused.
+// The answer: the bad places as ones, none where it is refused. It is flat and no Result: C is handed it so (`desk_wide_find_bad`).
 #[repr(C)]
-#[derive(Clone, Copy)]
+#[derive(Clone, Copy, Default)]
 pub struct Found {
     pub number: usize,
     pub told: usize,
     pub word: Word,
 }
 
-fn refused(refusal: Refusal) -> Found
-    ensures { result ≡ refused_found refusal }
-{
-    Found {
-        number: refusal.number,
-        told: refusal.told,
-        word: Word {
-            low: 0,
-            high: 0,
-            check: 0,
-        },
+impl From<Refusal> for Found {
+    ghost from_gives = { λ f a. a ≡ refused_found f };
+
+    fn from(refusal: Refusal) -> Found {
+        Found {
+            number: refusal.number,
+            told: refusal.told,
+            ..Found::default()
+        }
     }
+}
+
+// The places below n where two reads agree, or what is refused.
+#[tactic(auto, unfolding(crate::specs::Finder::find_in))]
+fn find_under(opened: &Opened, first: Word, second: Word) -> Result<Found, Refusal>
+    requires { Laid opened.now }
+    ensures { answered result ≡ find_of opened.now first second }
+{
+    opened.standing?;
+    if first.stray_in(opened.n, opened.k) || second.stray_in(opened.n, opened.k) {
+        return Err(Denial::Stray.into());
+    }
+    let differing = xored(first, second);
+    Ok(Found {
+        number: 0,
+        told: 0,
+        word: xored(every_place(opened.n, opened.k), differing),
+    })
 }
 
 // The places below n where two reads agree: each place that keeps what is written differs in them.
@@ -79,22 +88,5 @@ pub fn find_bad(opened: Opened, first: Word, second: Word) -> Found
     requires { Laid opened }
     ensures { result ≡ find_of opened first second }
 {
-    let standing = opened.standing;
-    if let Standing::Refused(refusal) = standing {
-        return refused(refusal);
-    }
-    let k = opened.k;
-    let n = opened.n;
-    if word::stray_in(n, k, first) {
-        return refused(Refusal { number: 7, told: 0 });
-    }
-    if word::stray_in(n, k, second) {
-        return refused(Refusal { number: 7, told: 0 });
-    }
-    let differing = xored(first, second);
-    Found {
-        number: 0,
-        told: 0,
-        word: xored(every_place(n, k), differing),
-    }
+    find_under(&opened, first, second).unwrap_or_else(Found::from)
 }

@@ -1,14 +1,20 @@
 // Places by a guess that is checked: a table of 512 slots by a column's low nine bits, so that most places are found in one look.
 #![tactic(auto)]
 
-ghost use Rattle.std.specs.Prelude.{◌≡◌, ◌<◌, length};
+ghost use Rattle.std.specs.Prelude.{◌≡◌, ◌%◌, ◌<◌, length};
 ghost use Rattle.columns.specs.Mix.{column, place_in};
 ghost use Rattle.guess.specs.Guess.{slots, Guessed};
 
 // A column has the slot that its low nine bits name.
 pub const SLOTS: usize = 512;
 
-// What a slot holds that no column has: no place of a code.
+fn slot_of(column: u16) -> usize
+    ensures { result ≡ column % slots }
+{
+    usize::from(column) % SLOTS
+}
+
+// What a slot holds that no column has: no place of a code. A number and no Option: that takes two bytes a slot, written for each question.
 pub const NONE: u8 = 255;
 
 // Each column's place is written into its slot, from the last column to the first: of columns with one slot the first stays. A place past
@@ -17,11 +23,8 @@ pub fn fill_guesses(guesses: &mut [u8], columns: &[u16])
     requires { length guesses.old ≡ slots }
     ensures { Guessed columns.now guesses.new }
 {
-    let mut i = columns.len();
-    while 0 < i {
-        i -= 1;
-        let slot = (columns[i] % 512) as usize;
-        guesses[slot] = (i % 256) as u8;
+    for i in (0..columns.len()).rev() {
+        guesses[slot_of(columns[i])] = (i % 256) as u8;
     }
 }
 
@@ -30,8 +33,7 @@ pub fn place(columns: &[u16], guesses: &[u8], s: u16) -> usize
     requires { Guessed columns.now guesses.now }
     ensures { result ≡ place_in columns.now s }
 {
-    let slot = (s % 512) as usize;
-    let at = guesses[slot] as usize;
+    let at = usize::from(guesses[slot_of(s)]);
     if at >= columns.len() {
         return columns.len();
     }
@@ -48,8 +50,8 @@ pub fn own_place(columns: &[u16], guesses: &[u8], i: usize) -> usize
     ensures { result ≡ place_in columns.now (column columns.now i) }
 {
     let c = columns[i];
-    let slot = (c % 512) as usize;
-    if guesses[slot] as usize == i {
+    let slot = slot_of(c);
+    if usize::from(guesses[slot]) == i {
         return i;
     }
     columns::place_in(columns, c)

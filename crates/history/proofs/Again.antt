@@ -13,9 +13,10 @@ use Rattle.record.specs.Layout.{entry_size, entry_in, in_bytes}
 use Rattle.record.specs.Run.{record_at}
 use Rattle.runs.proofs.Run.{record_take}
 use Rattle.code.specs.declared.Opened.{Opened}
-use Rattle.code.specs.declared.Standing.TheVariants as standing
+use Rattle.std.specs.Prelude.{Ok}
 use Rattle.at_record.specs.Outcome.{Reader}
-use Rattle.asked.specs.Pass.{Pass, State, room_in, last_stamp}
+use Rattle.asked.specs.declared.Pass.{Pass}
+use Rattle.asked.specs.Pass.{State, room_in, last_stamp}
 use Rattle.pass.specs.Pass.{noted_run, needed_run, behind, reader_of, after_pass}
 use Rattle.asked.specs.Asked.{GoesBack, GoesOn, Askable}
 use Rattle.pass.proofs.Cases.{refused_with, done_with, pass_refused}
@@ -83,7 +84,7 @@ module _ (o : Opened) (d : ℕ) (p : Pass) (s : State) (other : List ℕ) (long 
       (subst (Alike d s') (sym g) (record { image = refl; used = refl; long = long; entries = same }))
 
   -- done, both have the same entries behind those in use
-  module _ (taken : o.standing ≡ standing.Accepted) (x : after_pass o d p s' ≡ done_with f p s') (y : after_pass o d p s ≡ done_with f p s) where
+  module _ (taken : o.standing ≡ Ok tt) (x : after_pass o d p s' ≡ done_with f p s') (y : after_pass o d p s ≡ done_with f p s) where
     abbrev done' : (after_pass o d p s').answer.number ≡ 0
     done' = ap (λ u. u.answer.number) x
 

@@ -1,17 +1,15 @@
 -- A record put into an image, and another into the same place; and bytes that are the same. Assumes nothing.
 use mathlib.Core.Path.{◌≡◌, refl, sym, ap, ap₂, ◌∙◌}
-use mathlib.Core.Bool.{true, true≢false}
+use mathlib.Core.Bool.{true}
 use mathlib.Core.Logic.{◌≢◌, ◌⊎◌, inl, inr}
-use mathlib.Core.List.{List, [], ◌∷◌, ◌++◌}
+use mathlib.Core.List.{List, ◌++◌}
 use Prim.Native.Nat.{ℕ, suc, ◌+◌, ◌-◌, ◌*◌, ◌≤◌, ◌<◌}
 use native.Mathlib.Nat.{suc-mul, mul-le-mul_right}
 use native.Mathlib.Omega.{arith}
-use borrow.Author.Tests.{eq-eqb, eqb-true}
-use lib.Dec.{eqb}
+use lib.Pointwise.{bytes_decides}
 use lib.ListN.{length, take, drop, length-append, length-drop}
 use lib.Seq.{take_at, drop_at, drop-drop, length-take-le}
 use Rattle.parity.proofs.Ones.{below_or_not}
-use Rattle.parity.proofs.Tested.{both}
 use Rattle.record.specs.Run.{record_at}
 use Rattle.record.specs.Journal.{put_record}
 use Rattle.runs.proofs.Run.{record_drop, record_take}
@@ -19,17 +17,11 @@ use Rattle.entry_back.specs.Entry.{same_bytes}
 
 pub same_bytes_lem : (l : List ℕ) → same_bytes l l ≡ true
 unfolding same_bytes
-same_bytes_lem [] = refl
-same_bytes_lem (x ∷ xs) = simp (eq-eqb x x refl, same_bytes_lem xs)
+same_bytes_lem l = (bytes_decides l l).1 refl
 
 pub same_list : (l m : List ℕ) → same_bytes l m ≡ true → l ≡ m
 unfolding same_bytes
-same_list [] [] h = refl
-same_list [] (y ∷ ys) h = absurd (true≢false (sym h))
-same_list (x ∷ xs) [] h = absurd (true≢false (sym h))
-same_list (x ∷ xs) (y ∷ ys) h =
-    let b = both (eqb x y) (same_bytes xs ys) h in
-    ap₂ (λ z zs. z ∷ zs) (eqb-true x y b.0) (same_list xs ys b.1)
+same_list l m = (bytes_decides l m).0
 
 module _ (size : ℕ) (image : List ℕ) (n : ℕ) (x : List ℕ) (fits : suc n * size ≤ length image) (long : length x ≡ size) where
   front : length (take (n * size) image) ≡ n * size

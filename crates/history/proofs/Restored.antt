@@ -11,7 +11,8 @@ use lib.ListN.{length}
 use Rattle.parity.proofs.Ones.{below_or_not}
 use Rattle.record.specs.Layout.{record_size, entry_size, image_limit}
 use Rattle.code.specs.declared.Opened.{Opened}
-use Rattle.asked.specs.Pass.{Pass, State, no_image, room_in}
+use Rattle.asked.specs.declared.Pass.{Pass}
+use Rattle.asked.specs.Pass.{State, no_image, room_in}
 use Rattle.asked.specs.Asked.{Image}
 use Rattle.asked.proofs.Cases.{not_one, an_image}
 use Rattle.passes.specs.Twice.{state_after, Step, steps_after}

@@ -21,11 +21,12 @@ use Rattle.runs.proofs.Journal.{needed_clean, needed_more}
 use Rattle.runs.proofs.Entries.{record_said}
 use Rattle.runs.proofs.Image.{length-over_run}
 use Rattle.code.specs.declared.Opened.{Opened}
-use Rattle.code.specs.declared.Standing.TheVariants as standing
+use Rattle.std.specs.Prelude.{Ok}
 use Rattle.at_record.specs.Outcome.{Reader, verdict_of, left_of}
 use Rattle.at_record.proofs.Outcomes.{length-left_of, clean_kept}
 use Rattle.runs.proofs.Sizes.{number_below}
-use Rattle.asked.specs.Pass.{Pass, State}
+use Rattle.asked.specs.declared.Pass.{Pass}
+use Rattle.asked.specs.Pass.{State}
 use Rattle.pass.specs.Pass.{After, left_run, needed_run, reader_of, after_pass}
 use Rattle.passes.specs.Twice.{state_after, Step, steps_after}
 use Rattle.passes.proofs.Rows.{Ended, ended, done-is}
@@ -51,7 +52,7 @@ back_alike d j k (suc n) c image h =
 -- ---- a done pass
 
 module _ (o : Opened) (d : ℕ) (p : Pass) (s : State)
-    (taken : o.standing ≡ standing.Accepted) (zero-told : (after_pass o d p s).answer.number ≡ 0) where
+    (taken : o.standing ≡ Ok tt) (zero-told : (after_pass o d p s).answer.number ≡ 0) where
   abbrev f : Reader
   f = reader_of o d
 

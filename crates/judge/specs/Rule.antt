@@ -1,11 +1,11 @@
 -- Hsiao's rule, and what each answer of the judge says of a code. Assumes nothing.
-use Rattle.std.specs.Prelude.{◌≡◌, ◌≢◌, ◌⊎◌, List, ◌++◌, ℕ, ◌^◌, ◌≤◌, ◌<◌, length, take}
+use Rattle.std.specs.Prelude.{◌≡◌, ◌≢◌, ◌⊎◌, List, ◌++◌, ℕ, ◌^◌, ◌≤◌, ◌<◌, length, take, Ok, Err}
 use Rattle.std.specs.Int.Count.{ones}
 use Rattle.parity.specs.Odd.{odd_ones}
 use Rattle.columns.specs.Mix.{column, singles}
 use Rattle.columns.specs.Rule.{Good}
-use Rattle.judge.specs.declared.Judged.{Judged}
-use Rattle.judge.specs.declared.Judged.TheVariants.{Accepted, NoData, NoChecks, TooWide, EvenColumn, SingleOne, Repeated, Leftover}
+use Rattle.judge.specs.Judge.{Judged}
+use Rattle.judge.specs.declared.Flaw.TheVariants.{NoData, NoChecks, TooWide, EvenColumn, SingleOne, Repeated, Leftover}
 
 -- the n columns of a code: the data columns, then the check columns 1, 2, 4, .. 2 ^ (r - 1)
 abbrev pub matrix : List ℕ → ℕ → List ℕ
@@ -71,23 +71,23 @@ pub record LeftAt (columns : List ℕ) (k i : ℕ) : Type 0 where
 
 -- what an answer of the judge says of the data columns
 abbrev pub SaysOfColumns : List ℕ → ℕ → Judged → Type 0
-SaysOfColumns columns r Accepted = Hsiao columns r
-SaysOfColumns columns r NoData = ⊥
-SaysOfColumns columns r NoChecks = ⊥
-SaysOfColumns columns r (TooWide i) = Lowest columns r i × WideAt columns r i
-SaysOfColumns columns r (EvenColumn i) = Lowest columns r i × (¬ (WideAt columns r i)) × EvenAt columns i
-SaysOfColumns columns r (SingleOne i) = Lowest columns r i × (¬ (WideAt columns r i)) × (¬ (EvenAt columns i)) × SingleAt columns i
-SaysOfColumns columns r (Repeated i) = Lowest columns r i × (¬ (WideAt columns r i))
+SaysOfColumns columns r (Ok u) = Hsiao columns r
+SaysOfColumns columns r (Err NoData) = ⊥
+SaysOfColumns columns r (Err NoChecks) = ⊥
+SaysOfColumns columns r (Err (TooWide i)) = Lowest columns r i × WideAt columns r i
+SaysOfColumns columns r (Err (EvenColumn i)) = Lowest columns r i × (¬ (WideAt columns r i)) × EvenAt columns i
+SaysOfColumns columns r (Err (SingleOne i)) = Lowest columns r i × (¬ (WideAt columns r i)) × (¬ (EvenAt columns i)) × SingleAt columns i
+SaysOfColumns columns r (Err (Repeated i)) = Lowest columns r i × (¬ (WideAt columns r i))
     × (¬ (EvenAt columns i)) × (¬ (SingleAt columns i)) × AgainAt columns i
-SaysOfColumns columns r (Leftover i) = ⊥
+SaysOfColumns columns r (Err (Leftover i)) = ⊥
 
 -- what an answer of the judge says of a code: its row of the table holds, and no earlier one
 abbrev pub SaysOfCode : ℕ → List ℕ → ℕ → ℕ → Judged → Type 0
-SaysOfCode most columns k r NoData = (k ≡ 0) ⊎ (most < k)
-SaysOfCode most columns k r NoChecks = Sized most k × ((r < 3) ⊎ (16 < r))
-SaysOfCode most columns k r Accepted = Limits most k r × SaysOfColumns (take k columns) r Accepted × Empty columns k
-SaysOfCode most columns k r (TooWide i) = Limits most k r × SaysOfColumns (take k columns) r (TooWide i)
-SaysOfCode most columns k r (EvenColumn i) = Limits most k r × SaysOfColumns (take k columns) r (EvenColumn i)
-SaysOfCode most columns k r (SingleOne i) = Limits most k r × SaysOfColumns (take k columns) r (SingleOne i)
-SaysOfCode most columns k r (Repeated i) = Limits most k r × SaysOfColumns (take k columns) r (Repeated i)
-SaysOfCode most columns k r (Leftover i) = Limits most k r × SaysOfColumns (take k columns) r Accepted × LeftAt columns k i
+SaysOfCode most columns k r (Err NoData) = (k ≡ 0) ⊎ (most < k)
+SaysOfCode most columns k r (Err NoChecks) = Sized most k × ((r < 3) ⊎ (16 < r))
+SaysOfCode most columns k r (Ok u) = Limits most k r × SaysOfColumns (take k columns) r (Ok tt) × Empty columns k
+SaysOfCode most columns k r (Err (TooWide i)) = Limits most k r × SaysOfColumns (take k columns) r (Err (TooWide i))
+SaysOfCode most columns k r (Err (EvenColumn i)) = Limits most k r × SaysOfColumns (take k columns) r (Err (EvenColumn i))
+SaysOfCode most columns k r (Err (SingleOne i)) = Limits most k r × SaysOfColumns (take k columns) r (Err (SingleOne i))
+SaysOfCode most columns k r (Err (Repeated i)) = Limits most k r × SaysOfColumns (take k columns) r (Err (Repeated i))
+SaysOfCode most columns k r (Err (Leftover i)) = Limits most k r × SaysOfColumns (take k columns) r (Ok tt) × LeftAt columns k i

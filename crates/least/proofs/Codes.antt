@@ -8,10 +8,10 @@ use native.Mathlib.Omega.{arith}
 use lib.ListN.{length, take, replicate, length-append, length-replicate, get_or-replicate, get_or-append}
 use lib.Pow.{pow_mono}
 use lib.Seq.{get_or-append-add, length-take-le, take_at}
+use Rattle.std.specs.Prelude.{Ok}
 use Rattle.parity.proofs.Ones.{below_or_not}
 use Rattle.columns.specs.Mix.{column, place_in}
 use Rattle.columns.proofs.Places.{place_hit}
-use Rattle.judge.specs.declared.Judged.TheVariants.{Accepted}
 use Rattle.judge.specs.Judge.{judge_in}
 use Rattle.judge.specs.Rule.{matrix, Limits}
 use Rattle.judge.proofs.Table.{judge_rule}
@@ -65,7 +65,7 @@ module _ (most k r : ℕ) (limits : Limits most k r) (fits : k ≤ 2 ^ (r - 1) -
   made_below p u = padded-at most (made_columns k r) few p (omega (arith, size)) ∙ made_at k r some-checks full p u
 
   -- ACCEPTED
-  pub made_accepted : judge_in most (padded_to most (made_columns k r)) k r ≡ Accepted
+  pub made_accepted : judge_in most (padded_to most (made_columns k r)) k r ≡ Ok tt
   made_accepted =
       (judge_rule most (padded_to most (made_columns k r)) k r).1 (record {
         limits = limits;
@@ -110,7 +110,7 @@ module _ (most k r : ℕ) (limits : Limits most k r) (fits : k ≤ 2 ^ (r - 1) -
 
 -- ---- any accepted code
 
-module _ (most : ℕ) (columns : List ℕ) (k r : ℕ) (places : length columns ≡ most) (e : judge_in most columns k r ≡ Accepted) where
+module _ (most : ℕ) (columns : List ℕ) (k r : ℕ) (places : length columns ≡ most) (e : judge_in most columns k r ≡ Ok tt) where
   accepted_limits : Limits most k r
   accepted_limits = ((judge_rule most columns k r).0 e).limits
 

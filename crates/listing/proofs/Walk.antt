@@ -1,14 +1,18 @@
 -- For a loop that walks the lower places: the pairs found so far, one place more, and their bytes. Assumes nothing.
 use mathlib.Core.Path.{◌≡◌, refl, sym, ap, ◌∙◌}
+use mathlib.Core.Bool.{Bool, true, false, cond}
+use Rattle.std.proofs.Common.{Option, Some, None}
+use Rattle.std.specs.Bool.{then_some}
+use Rattle.std.specs.Option.{is_some}
 use mathlib.Core.List.{List, [], ◌∷◌, ◌++◌, append_assoc, append-nil}
 use Prim.Native.Nat.{ℕ, zero, suc, ◌+◌, ◌*◌, ◌-◌, ◌≤◌, ◌<◌}
 use native.Mathlib.Omega.{arith}
-use borrow.Author.Tests.{lt-ltb, le-ltb}
+use lib.Dec.{ltb}
 use lib.ListN.{length, set, length-append}
 use Rattle.record.specs.Run.{over}
 use Rattle.record.proofs.Over.{over-two}
 use Rattle.listing.specs.Sets.{entry_of, bytes_for}
-use Rattle.listing.specs.BySyndrome.{partner_of, pair_at, pairs_from}
+use Rattle.listing.specs.BySyndrome.{below, partner_of, pair_at, pairs_from}
 
 -- ---- bytes
 
@@ -49,15 +53,7 @@ pairs_split cs s (suc a) b (suc m) p q e f =
     ap (λ (l : List (List ℕ)). pair_at cs s p ++ l) (pairs_split cs s a b m (suc p) q (omega arith) (omega arith))
     ∙ sym (append_assoc (pair_at cs s p) (pairs_from cs s a (suc p)) (pairs_from cs s b q))
 
-module _ (cs : List ℕ) (s p q : ℕ) (partner : q ≡ partner_of cs s p) where
-  pair_found : q < length cs → pair_at cs s p ≡ (p ∷ q ∷ []) ∷ []
-  unfolding pair_at
-  pair_found h = rw (← partner, lt-ltb q (length cs) h)
-
-  pair_missing : length cs ≤ q → pair_at cs s p ≡ []
-  unfolding pair_at
-  pair_missing h = rw (← partner, le-ltb q (length cs) h)
-
+module _ (cs : List ℕ) (s p : ℕ) where
   next : pairs_from cs s (p + 1) 0 ≡ pairs_from cs s p 0 ++ pair_at cs s p
   unfolding pairs_from
   next =
@@ -65,30 +61,61 @@ module _ (cs : List ℕ) (s p q : ℕ) (partner : q ≡ partner_of cs s p) where
       ∙ ap (λ (l : List (List ℕ)). pairs_from cs s p 0 ++ l) (append-nil (pair_at cs s p))
 
   -- one place more, with a partner and with none
-  pub next_found : q < length cs → pairs_from cs s (p + 1) 0 ≡ pairs_from cs s p 0 ++ ((p ∷ q ∷ []) ∷ [])
-  next_found h = next ∙ ap (λ (l : List (List ℕ)). pairs_from cs s p 0 ++ l) (pair_found h)
+  pub next_found : (q : ℕ) → below (length cs) (partner_of cs s p) ≡ Some q
+      → pairs_from cs s (p + 1) 0 ≡ pairs_from cs s p 0 ++ ((p ∷ q ∷ []) ∷ [])
+  unfolding pair_at
+  next_found q e = next ∙ ap (λ (l : List (List ℕ)). pairs_from cs s p 0 ++ l) (go (ltb (partner_of cs s p) (length cs)) e)
+    where
+      go : (b : Bool) → then_some b (partner_of cs s p) ≡ Some q
+          → cond b ((p ∷ partner_of cs s p ∷ []) ∷ []) [] ≡ (p ∷ q ∷ []) ∷ []
+      go true e = cc
+      go false e = cc
 
-  pub next_missing : length cs ≤ q → pairs_from cs s (p + 1) 0 ≡ pairs_from cs s p 0
-  next_missing h = next ∙ ap (λ (l : List (List ℕ)). pairs_from cs s p 0 ++ l) (pair_missing h) ∙ append-nil (pairs_from cs s p 0)
+  pub next_missing : below (length cs) (partner_of cs s p) ≡ None → pairs_from cs s (p + 1) 0 ≡ pairs_from cs s p 0
+  unfolding pair_at
+  next_missing e =
+      next ∙ ap (λ (l : List (List ℕ)). pairs_from cs s p 0 ++ l) (go (ltb (partner_of cs s p) (length cs)) e)
+      ∙ append-nil (pairs_from cs s p 0)
+    where
+      go : (b : Bool) → then_some b (partner_of cs s p) ≡ None → cond b ((p ∷ partner_of cs s p ∷ []) ∷ []) [] ≡ []
+      go true e = cc
+      go false e = refl
 
-  pub count-found : q < length cs → length (pairs_from cs s (p + 1) 0) ≡ length (pairs_from cs s p 0) + 1
-  count-found h = ap length (next_found h) ∙ length-append (pairs_from cs s p 0) ((p ∷ q ∷ []) ∷ [])
+  -- so many are there then
+  pub count_found : (q : ℕ) → below (length cs) (partner_of cs s p) ≡ Some q
+      → length (pairs_from cs s (p + 1) 0) ≡ length (pairs_from cs s p 0) + 1
+  count_found q e = ap length (next_found q e) ∙ length-append (pairs_from cs s p 0) ((p ∷ q ∷ []) ∷ [])
 
-  -- its two bytes written behind those that are there
-  pub put_found : (now then : List ℕ) (a : ℕ) → now ≡ over (bytes_for (pairs_from cs s p 0)) then → a ≡ 2 * length (pairs_from cs s p 0)
-      → a + 1 < length then → q < length cs → set (set now a p) (a + 1) q ≡ over (bytes_for (pairs_from cs s (p + 1) 0)) then
-  unfolding bytes_for
-  put_found now then a e f h l =
-      ap (λ (x : List ℕ). set (set x a p) (a + 1) q) e
-      ∙ over-two (bytes_for (pairs_from cs s p 0)) then a p q (length-bytes (pairs_from cs s p 0) ∙ sym f) h
-      ∙ ap (λ (x : List ℕ). over x then)
-      (sym (bytes-append (pairs_from cs s p 0) ((p ∷ q ∷ []) ∷ [])) ∙ ap bytes_for (sym (next_found l)))
+  pub count_next : (b : Bool) → b ≡ is_some (below (length cs) (partner_of cs s p))
+      → length (pairs_from cs s (p + 1) 0) ≡ length (pairs_from cs s p 0) + cond b 1 0
+  count_next b e = go (below (length cs) (partner_of cs s p)) refl e
+    where
+      go : (r : Option ℕ) → below (length cs) (partner_of cs s p) ≡ r → b ≡ is_some r
+          → length (pairs_from cs s (p + 1) 0) ≡ length (pairs_from cs s p 0) + cond b 1 0
+      go (Some q) h e = rw e (count_found q h)
+      go None h e = rw e (omega (arith, ap length (next_missing h)))
+
+  module _ (q : ℕ) (found : below (length cs) (partner_of cs s p) ≡ Some q) where
+    -- its two bytes written behind those that are there
+    pub put_found : (now then : List ℕ) (a : ℕ) → now ≡ over (bytes_for (pairs_from cs s p 0)) then → a ≡ 2 * length (pairs_from cs s p 0)
+        → a + 1 < length then → set (set now a p) (a + 1) q ≡ over (bytes_for (pairs_from cs s (p + 1) 0)) then
+    unfolding bytes_for
+    put_found now then a e f h =
+        ap (λ (x : List ℕ). set (set x a p) (a + 1) q) e
+        ∙ over-two (bytes_for (pairs_from cs s p 0)) then a p q (length-bytes (pairs_from cs s p 0) ∙ sym f) h
+        ∙ ap (λ (x : List ℕ). over x then)
+        (sym (bytes-append (pairs_from cs s p 0) ((p ∷ q ∷ []) ∷ [])) ∙ ap bytes_for (sym (next_found q found)))
 
 -- no part has more than all
-pub pairs_most : (cs : List ℕ) (s p m : ℕ) → p ≤ m → length (pairs_from cs s p 0) ≤ length (pairs_from cs s m 0)
+pairs_most : (cs : List ℕ) (s p m : ℕ) → p ≤ m → length (pairs_from cs s p 0) ≤ length (pairs_from cs s m 0)
 pairs_most cs s p m h =
     omega (
       arith,
       ap length (pairs_split cs s p (m - p) m 0 p (omega arith) (omega arith))
           ∙ length-append (pairs_from cs s p 0) (pairs_from cs s (m - p) p),
     )
+
+-- so there is room for a pair that is found, where there is room for all
+pub room_found : (cs : List ℕ) (s p q size : ℕ) → below (length cs) (partner_of cs s p) ≡ Some q → p < length cs
+    → 2 * length (pairs_from cs s (length cs) 0) ≤ size → 2 * length (pairs_from cs s p 0) + 2 ≤ size
+room_found cs s p q size e l h = omega (arith, count_found cs s p q e, pairs_most cs s (p + 1) (length cs) (omega arith))

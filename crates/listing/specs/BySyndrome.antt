@@ -1,6 +1,7 @@
 -- The sets whose flips leave syndrome 0, and the same list found by the syndrome alone: nothing, the place of a column, or the pairs
 -- of columns that make it. Assumes nothing.
-use Rattle.std.specs.Prelude.{Bool, cond, List, [], ◌∷◌, ◌++◌, ℕ, zero, suc, ◌+◌, eqb, ltb, length, drop}
+use Rattle.std.specs.Prelude.{Bool, cond, List, [], ◌∷◌, ◌++◌, ℕ, zero, suc, ◌+◌, eqb, ltb, length, drop, Option}
+use Rattle.std.specs.Bool.{then_some}
 use Rattle.std.specs.Int.Bits.{bit_xor}
 use Rattle.columns.specs.Mix.{mix, column, place_in}
 use Rattle.listing.specs.Sets.{flip_all, sets_up_to, those}
@@ -22,6 +23,10 @@ place_from cs s p = p + place_in (drop p cs) s
 -- the place above p whose column makes s with that of p, or the number of places where there is none
 abbrev pub partner_of : List ℕ → ℕ → ℕ → ℕ
 partner_of cs s p = place_from cs (bit_xor s (column cs p)) (suc p)
+
+-- a place, where it is one of n
+abbrev pub below : ℕ → ℕ → Option ℕ
+below n p = then_some (ltb p n) p
 
 -- place p with its partner, where it has one
 unfoldable pub pair_at : List ℕ → ℕ → ℕ → List (List ℕ)

@@ -4,29 +4,26 @@
 ghost use Rattle.std.specs.Prelude.{◌≡◌, ◌*◌, ◌≤◌, ◌<◌, length};
 ghost use Rattle.record.specs.Run.{over};
 ghost use Rattle.listing.specs.Sets.{bytes_for, written};
-ghost use Rattle.listing.specs.BySyndrome.{partner_of, pairs_by, by_syndrome};
+ghost use Rattle.listing.specs.BySyndrome.{below, partner_of, pairs_by, by_syndrome};
 
-// The place above p whose column makes s with that of p, or the number of places where there is none.
-fn partner(columns: &[u16], s: u16, p: usize) -> usize
+// The place above p whose column makes s with that of p.
+fn partner(columns: &[u16], s: u16, p: usize) -> Option<usize>
     requires { p < length columns.now }
-    ensures { result ≡ partner_of columns.now s p }
+    ensures { result ≡ below (length columns.now) (partner_of columns.now s p) }
 {
     let from = p + 1;
     let wanted = s ^ columns[p];
-    from + columns::place_in(&columns[from..], wanted)
+    let q = from + columns::place_in(&columns[from..], wanted);
+    (q < columns.len()).then_some(q)
 }
 
 // How many pairs make s.
 fn count_pairs(columns: &[u16], s: u16) -> usize
     ensures { result ≡ length (pairs_by columns.now s) }
 {
-    let n = columns.len();
-    let mut count: usize = 0;
-    let mut p: usize = 0;
-    while p < n {
-        let q = partner(columns, s, p);
-        p += 1;
-        if q < n {
+    let mut count = 0;
+    for p in 0..columns.len() {
+        if partner(columns, s, p).is_some() {
             count += 1;
         }
     }
@@ -34,6 +31,7 @@ fn count_pairs(columns: &[u16], s: u16) -> usize
 }
 
 // How many entries the list has.
+#[tactic(auto, unfolding(crate::specs::BySyndrome::by_syndrome))]
 fn count_entries(columns: &[u16], s: u16, limit: usize) -> usize
     ensures { result ≡ length (by_syndrome columns.now s limit) }
 {
@@ -52,20 +50,15 @@ fn count_entries(columns: &[u16], s: u16, limit: usize) -> usize
     count_pairs(columns, s)
 }
 
-// The pairs, in the first bytes of the list.
+// The pairs, in the first bytes of the list. `at` counts by hand: not each place has a pair, so the bytes go at a pace of their own.
 fn put_pairs(columns: &[u16], s: u16, list: &mut [u8])
     requires { (length columns.now ≤ 255) × (2 * length (pairs_by columns.now s) ≤ length list.old) }
     ensures { list.new ≡ over (bytes_for (pairs_by columns.now s)) list.old }
 {
-    let n = columns.len();
-    let mut at: usize = 0;
-    let mut p: usize = 0;
-    while p < n {
-        let q = partner(columns, s, p);
-        let lower = p as u8;
-        p += 1;
-        if q < n {
-            list[at] = lower;
+    let mut at = 0;
+    for p in 0..columns.len() {
+        if let Some(q) = partner(columns, s, p) {
+            list[at] = p as u8;
             list[at + 1] = q as u8;
             at += 2;
         }
@@ -73,6 +66,7 @@ fn put_pairs(columns: &[u16], s: u16, list: &mut [u8])
 }
 
 // The whole list, in the first bytes.
+#[tactic(auto, using(crate::proofs::Walk::put_one), unfolding(crate::specs::BySyndrome::by_syndrome, crate::specs::Sets::bytes_for))]
 fn put_entries(columns: &[u16], s: u16, limit: usize, list: &mut [u8])
     requires { (length columns.now ≤ 255) × (2 * length (by_syndrome columns.now s limit) ≤ length list.old) }
     ensures { list.new ≡ over (bytes_for (by_syndrome columns.now s limit)) list.old }
@@ -98,6 +92,7 @@ fn put_entries(columns: &[u16], s: u16, limit: usize, list: &mut [u8])
 }
 
 // How many entries the list has; it is written where there is room for all of it, and else not a byte is.
+#[tactic(auto, unfolding(crate::specs::Sets::written))]
 pub fn put_list(columns: &[u16], s: u16, limit: usize, list: &mut [u8]) -> usize
     requires { length columns.now ≤ 255 }
     ensures value { result ≡ length (by_syndrome columns.now s limit) }

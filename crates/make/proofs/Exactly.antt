@@ -1,9 +1,9 @@
 -- The maker's answer in plain numbers: 1, 2, 15 and 0 exactly, what a refusal hands back, and a code written out. Assumes nothing.
-use mathlib.Core.Path.{◌≡◌, refl, sym, ap, ap₂, ◌∙◌}
+use mathlib.Core.Path.{◌≡◌, refl}
 use mathlib.Core.Bool.{false, or-true}
-use mathlib.Core.Logic.{◌≢◌, ◌⊎◌, ◌↔◌, inl, inr, ⊎_elim}
-use mathlib.Core.List.{List, ◌∷◌}
-use Prim.Native.Nat.{ℕ, zero, suc, ◌-◌, ◌^◌, ◌≤◌, ◌<◌}
+use mathlib.Core.Logic.{◌⊎◌, ◌↔◌, inl, inr, ⊎_elim}
+use mathlib.Core.List.{◌∷◌}
+use Prim.Native.Nat.{ℕ, suc, ◌-◌, ◌^◌, ◌≤◌, ◌<◌}
 use native.Mathlib.Omega.{arith}
 use borrow.Author.Tests.{eq-eqb, ne_eqb, lt-ltb, le-ltb}
 use lib.Count.{ones, ones_in}
@@ -12,7 +12,7 @@ use lib.ListN.{replicate}
 use Rattle.parity.proofs.Ones.{below_or_not}
 use Rattle.judge.specs.Rule.{Sized, Limits}
 use Rattle.order.specs.Order.{passing_from, by_ones}
-use Rattle.make.specs.Made.{make_number, places_by, making_in, making_by}
+use Rattle.make.specs.Made.{make_number, making_by}
 
 -- the ends of k and r, and of the room, written out
 pub ends :
@@ -118,26 +118,6 @@ module _ (most k r : ℕ) where
         (λ t. absurd (omega (arith, e, no_room t.0 t.1))) (λ t. t),
     λ t. has_room t.0 t.1,
   )
-
--- ---- the places and the answer, by the number
-
-pub refused-places : (n most k r : ℕ) → n ≢ 0 → places_by n most k r ≡ replicate most 0
-refused-places zero most k r h = absurd (h refl)
-refused-places (suc n) most k r h = refl
-
-module _ {A : Type 0} (put : ℕ → List ℕ → ℕ → ℕ → A) (most k r n : ℕ) (places : List ℕ)
-    (e : n ≡ make_number most k r) (l : places ≡ places_by n most k r) where
-  pub refused_made : n ≢ 0 → put n places 0 0 ≡ making_in put most (make_number most k r) k r
-  refused_made h = go n l h ∙ ap (λ (m : ℕ). making_in put most m k r) e
-    where
-      go : (n : ℕ) → places ≡ places_by n most k r → n ≢ 0 → put n places 0 0 ≡ making_in put most n k r
-      go zero l h = absurd (h refl)
-      go (suc n) l h = ap (λ (p : List ℕ). put (suc n) p 0 0) l
-
-  pub made_made : n ≡ 0 → put n places k r ≡ making_in put most (make_number most k r) k r
-  made_made z =
-      ap₂ (λ (m : ℕ) (p : List ℕ). put m p k r) z (l ∙ ap (λ (m : ℕ). places_by m most k r) z)
-      ∙ ap (λ (m : ℕ). making_in put most m k r) (sym z ∙ e)
 
 -- ---- written out
 

@@ -1,5 +1,7 @@
 -- What the maker answers: 02's request 101. Assumes nothing.
-use Rattle.std.specs.Prelude.{cond, ◌||◌, List, ◌++◌, ℕ, zero, suc, ◌-◌, ◌^◌, eqb, ltb, length, replicate}
+use Rattle.std.specs.Prelude.{cond, ◌||◌, List, ◌++◌, ℕ, zero, suc, ◌-◌, ◌^◌, eqb, ltb, length, replicate, Result, Ok, Err}
+use Rattle.make.specs.declared.Unmade.{Unmade}
+use Rattle.make.specs.declared.Unmade.TheVariants.{DataBits, CheckBits, ColumnRoom}
 use Rattle.make.specs.declared.Made.{Made}
 use Rattle.make.specs.declared.WideMade.{WideMade}
 use Rattle.order.specs.Order.{made_columns}
@@ -15,6 +17,16 @@ make_number most k r =
     (cond (ltb r 3 || ltb 16 r) 2
     (cond (ltb (2 ^ (r - 1) - r) k) 15 0))
 
+-- the numbers of what no code can be made with, and of an answer
+abbrev pub number_of : Unmade → ℕ
+number_of DataBits = 1
+number_of CheckBits = 2
+number_of ColumnRoom = 15
+
+abbrev pub number_in : {A : Type 0} → Result A Unmade → ℕ
+number_in (Ok a) = 0
+number_in (Err unmade) = number_of unmade
+
 -- its places, by that number: the columns in order and zeros past them; all zeros where it is refused
 abbrev pub places_by : ℕ → ℕ → ℕ → ℕ → List ℕ
 places_by zero most k r = padded_to most (made_columns k r)
@@ -29,6 +41,10 @@ making_in put most (suc n) k r = put (suc n) (places_by (suc n) most k r) 0 0
 abbrev pub made_with : ℕ → List ℕ → ℕ → ℕ → Made
 made_with number columns k r = record { number = number; code = record { columns = columns; k = k; r = r } }
 
+-- a refusal
+abbrev pub refused_made : Unmade → Made
+refused_made unmade = made_with (number_of unmade) (replicate 64 0) 0 0
+
 abbrev pub making_by : ℕ → ℕ → ℕ → Made
 making_by n k r = making_in made_with 64 n k r
 
@@ -38,6 +54,9 @@ make_of k r = making_by (make_number 64 k r) k r
 -- and in 128
 abbrev pub wide_made_with : ℕ → List ℕ → ℕ → ℕ → WideMade
 wide_made_with number columns k r = record { number = number; code = record { columns = columns; k = k; r = r } }
+
+abbrev pub refused_wide : Unmade → WideMade
+refused_wide unmade = wide_made_with (number_of unmade) (replicate 128 0) 0 0
 
 abbrev pub make_wide : ℕ → ℕ → WideMade
 make_wide k r = making_in wide_made_with 128 (make_number 128 k r) k r

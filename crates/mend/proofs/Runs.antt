@@ -16,14 +16,14 @@ use Rattle.runs.proofs.Tallies.{count-le}
 use Rattle.runs.proofs.Entries.{in_bytes-append}
 use Rattle.runs.proofs.Image as runs
 use Rattle.code.specs.declared.Opened.{Opened}
-use Rattle.code.specs.declared.Standing.TheVariants as standing
+use Rattle.std.specs.Prelude.{Ok}
 use Rattle.judge.specs.Judge.{judge_column, judge_from, judge_columns, judge_rest, leftover_from, judge_in}
 use Rattle.code.specs.Opened.{opened_of}
 use Rattle.code.specs.Sample.{sample_code}
-use Rattle.code.proofs.Laid.{refused_no_acceptance}
 use Rattle.pass.specs.declared.PassAnswer.{PassAnswer}
 use Rattle.at_record.specs.Outcome.{verdict_of, left_of, entry_of}
-use Rattle.asked.specs.Pass.{Pass, State, pass_over, state_of, room_in}
+use Rattle.asked.specs.declared.Pass.{Pass}
+use Rattle.asked.specs.Pass.{State, pass_over, state_of, room_in}
 use Rattle.pass.specs.Pass.{After, noted_run, needed_run, count_run, after_pass}
 use Rattle.asked.specs.Asked.{Image}
 use Rattle.pass.proofs.Cases.{done_with}
@@ -36,7 +36,7 @@ use Rattle.report.specs.Totals.{no_totals, added_to, total_limit, Within}
 use Rattle.report.proofs.Lines.{journal_append}
 use Rattle.mend.specs.Mend.{sample_reader, run_tally, run_left, run_text, Ready, as_totals}
 
-pub sample_accepted : (opened_of sample_code).standing ≡ standing.Accepted
+pub sample_accepted : (opened_of sample_code).standing ≡ Ok tt
 unfolding judge_in judge_columns judge_rest leftover_from judge_from judge_column ones ones_in place_in
 sample_accepted = refl
 
@@ -79,7 +79,7 @@ module _ (opened : Opened) (image journal : List ℕ) (answer : PassAnswer) (is 
       told x g = ap (λ y. y.number) sampled ∙ ap (λ y. y.answer.number) g
 
       go : Row o data_size p s → answer.number ≡ 12
-      go (Row.closed g f) = absurd (refused_no_acceptance (sym f ∙ sample_accepted))
+      go (Row.closed g f) = let taken = sample_accepted in cc
       go (Row.no-image f h) = told _ (answer_12 o data_size p s f h)
       go (Row.no_run f i h) = ⊎_elim (λ (x : 0 < 0). absurd (omega arith)) (λ (x : records_in data_size image < 0). absurd (omega arith)) h
       go (Row.too_many f i r h) = absurd (omega arith)

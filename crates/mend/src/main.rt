@@ -10,11 +10,13 @@ ghost use Rattle.asked.specs.Asked.{Image};
 ghost use Rattle.report.specs.Text.{line_size};
 ghost use Rattle.mend.specs.Mend.{run_tally, run_left, run_text, run_size, Ready, as_totals};
 
+use asked::Pass;
 use code::Code;
 use record::{DATA, ENTRY, IMAGE_BOUND, RECORD, Tally};
 use report::{LINE, REFUSAL, TALLY_LINE, Totals};
 
-// The standard input and output, as file descriptors.
+// The standard input and output, as file descriptors. The kit's io stays: by std's, what the program does at a failed or interrupted call would
+// be another, and each function that prints would hand an error on of which no contract here speaks.
 const STDIN: i32 = 0;
 
 const STDOUT: i32 = 1;
@@ -33,15 +35,8 @@ const LINES: usize = RUN * LINE;
 fn sample_code() -> Code
     ensures { result ≡ sample_code }
 {
-    let mut columns = [0u16; 64];
-    columns[0] = 28;
-    columns[1] = 26;
-    columns[2] = 25;
-    columns[3] = 22;
-    columns[4] = 21;
-    columns[5] = 19;
-    columns[6] = 14;
-    columns[7] = 13;
+    let mut columns = [0; 64];
+    columns[..8].copy_from_slice(&[28, 26, 25, 22, 21, 19, 14, 13]);
     Code {
         columns,
         k: 8,
@@ -63,23 +58,16 @@ fn mend_run(
     ensures lines_after { lines.new ≡ over (run_text image.old start end) lines.old }
 {
     let opened = code::open_code(sample_code());
-    let answer = quick::pass(opened, DATA, image, start, end, journal, 0, 0);
+    let over = Pass {
+        start,
+        end,
+        stamp: 0,
+    };
+    let answer = quick::pass(opened, DATA, over, image, journal, 0);
     let used = ENTRY * answer.used;
     let size = report::journal_text(&journal[..used], lines);
     io::write_all(STDOUT, &lines[..size]);
     answer.tally
-}
-
-// The end of the run that begins at `start`.
-fn run_end(start: usize, records: usize) -> usize
-    requires { start < records }
-    ensures { (start < result) × (result ≤ records) × (result ≤ start + run_size) }
-{
-    if records - start < RUN {
-        records
-    } else {
-        start + RUN
-    }
 }
 
 // The image run by run, the tallies summed.
@@ -90,13 +78,11 @@ fn mend_runs(image: &mut [u8], journal: &mut [u8], lines: &mut [u8]) -> Totals
     ensures image_after { image.new ≡ run_left image.old 0 (records_in data_size image.old) }
 {
     let records = image.len() / RECORD;
-    let mut totals = Totals::new();
-    let mut start = 0;
-    while start < records {
-        let end = run_end(start, records);
+    let mut totals = Totals::default();
+    for start in (0..records).step_by(RUN) {
+        let end = records.min(start + RUN);
         let tally = mend_run(image, start, end, journal, lines);
         totals = totals.added(tally);
-        start = end;
     }
     totals
 }
@@ -120,7 +106,12 @@ fn mend_image(image: &mut [u8]) {
     let mut journal = [0u8; JOURNAL];
     let mut lines = [0u8; LINES];
     let opened = code::open_code(sample_code());
-    let answer = pass::pass(opened, DATA, image, 0, 0, &mut journal, 0, 0);
+    let none = Pass {
+        start: 0,
+        end: 0,
+        stamp: 0,
+    };
+    let answer = pass::pass(opened, DATA, none, image, &mut journal, 0);
     let number = answer.number;
     if number != 0 {
         print_refusal(number);

@@ -11,7 +11,7 @@ use borrow.Author.Tests.{eq-eqb, ne_eqb}
 use lib.Count.{ones}
 use lib.Dec.{eqb}
 use lib.ListN.{length, set, length-set}
-use lib.Pow.{pow_mono, pow_pos}
+use lib.Pow.{pow_pos}
 use Rattle.order.specs.Order.{passing_from, with_ones, by_ones, in_order}
 use Rattle.order.specs.Order.{put_from}
 use Rattle.order.proofs.Putting.{put_full, put_next, length_put}
@@ -143,10 +143,6 @@ module _ (first : List ℕ) (r : ℕ) where
         sym (ap (λ (m : ℕ). put_from places i (by_ones r m c)) n) ∙ w.put
 
 -- ---- sizes
-
--- sixteen rows hold what a place of sixteen bits holds
-pub power_most : (r : ℕ) → r ≤ 16 → 2 ^ r ≤ 65536
-power_most r h = pow_mono {i = r} {j = 16} h
 
 -- there are no more rows than half of the numbers
 pub rows_fit : (r : ℕ) → 1 ≤ r → r ≤ 2 ^ (r - 1)

@@ -12,13 +12,11 @@ fn put_ones(places: &mut [u16], at: usize, r: usize, c: u32) -> usize
 {
     let limit: u32 = 1u32 << r;
     let mut i = at;
-    let mut x: u32 = 0;
-    while x < limit {
+    for x in 0..limit {
         if i >= places.len() {
             return i;
         }
         let column = x as u16;
-        x += 1;
         if parity::weight(column) == c {
             places[i] = column;
             i += 1;
@@ -33,12 +31,10 @@ pub fn put_columns(places: &mut [u16], r: usize)
     ensures { places.new ≡ put_from places.old 0 (in_order r) }
 {
     let mut i = 0;
-    let mut c: usize = 3;
-    while c <= r {
+    for c in (3..=r).step_by(2) {
         if i >= places.len() {
             return;
         }
         i = put_ones(places, i, r, c as u32);
-        c += 2;
     }
 }

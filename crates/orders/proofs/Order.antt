@@ -9,9 +9,10 @@ use Rattle.record.specs.Bytes.{byte_span}
 use Rattle.record.specs.Layout.{syndrome_size, entry_size, Entry}
 use Rattle.record.specs.Journal.{entries_from}
 use Rattle.code.specs.declared.Opened.{Opened}
-use Rattle.code.specs.declared.Standing.TheVariants as standing
+use Rattle.std.specs.Prelude.{Ok}
 use Rattle.at_record.specs.Outcome.{Reader, syndrome_of}
-use Rattle.asked.specs.Pass.{Pass, State}
+use Rattle.asked.specs.declared.Pass.{Pass}
+use Rattle.asked.specs.Pass.{State}
 use Rattle.pass.specs.Pass.{After, noted_run, reader_of, after_pass}
 use Rattle.asked.specs.Asked.{Run}
 use Rattle.orders.specs.Lists.{Rearranged, none, keep, swap, next}
@@ -49,7 +50,7 @@ entered-unstamped f image (p ∷ ps) =
     (joined_by (λ p. noted_run f p.stamp image p.start p.end) ps)
     ∙ ap₂ (λ (x y : List Entry). x ++ y) (noted-unstamped f p.stamp image p.start p.end) (entered-unstamped f image ps)
 
-module _ (o : Opened) (d : ℕ) (taken : o.standing ≡ standing.Accepted)
+module _ (o : Opened) (d : ℕ) (taken : o.standing ≡ Ok tt)
     (narrow : (rec : List ℕ) → syndrome_of (reader_of o d) rec < byte_span syndrome_size)
     (runs : List Ends) (s : State) (separate : Separate (reader_of o d) runs s) where
   abbrev f : Reader

@@ -13,11 +13,12 @@ use Rattle.record.specs.Journal.{entries_from}
 use Rattle.runs.proofs.Numbers.{bytes-part}
 use Rattle.runs.proofs.Run.{fits_less, record_length}
 use Rattle.code.specs.declared.Opened.{Opened}
-use Rattle.code.specs.declared.Standing.TheVariants as standing
+use Rattle.std.specs.Prelude.{Ok}
 use Rattle.code.specs.Opened.{Laid, SoundOpened}
 use Rattle.at_record.specs.Outcome.{Reader, Held, syndrome_of, verdict_of, left_of, entry_of}
 use Rattle.at_record.proofs.Outcomes.{kept}
-use Rattle.asked.specs.Pass.{Pass, State}
+use Rattle.asked.specs.declared.Pass.{Pass}
+use Rattle.asked.specs.Pass.{State}
 use Rattle.pass.specs.Pass.{After, noted_run, needed_run, reader_of, after_pass}
 use Rattle.passes.specs.Twice.{state_in, verdict_again}
 use Rattle.passes.proofs.Rows.{Ended, ended}
@@ -68,7 +69,7 @@ again_clean (suc (suc (suc v))) h = absurd (omega arith)
 
 -- ---- the entries of a done pass
 
-module _ (o : Opened) (d : ℕ) (taken : o.standing ≡ standing.Accepted)
+module _ (o : Opened) (d : ℕ) (taken : o.standing ≡ Ok tt)
     (narrow : (rec : List ℕ) → syndrome_of (reader_of o d) rec < byte_span syndrome_size) (p : Pass) (s : State)
     (done : (after_pass o d p s).answer.number ≡ 0) (small : p.stamp < byte_span stamp_size) where
   abbrev f : Reader
@@ -99,7 +100,7 @@ module _ (o : Opened) (d : ℕ) (taken : o.standing ≡ standing.Accepted)
 
 -- ---- the two passes
 
-module _ (o : Opened) (d : ℕ) (sound : SoundOpened o) (laid : Laid o) (held : Held d o.k) (taken : o.standing ≡ standing.Accepted)
+module _ (o : Opened) (d : ℕ) (sound : SoundOpened o) (laid : Laid o) (held : Held d o.k) (taken : o.standing ≡ Ok tt)
     (p q : Pass) (between : List Pass) (s : State) (wide : (o.k ≤ 64) ⊎ AllBytes s.image) where
   abbrev g : Reader
   g = reader_of o d

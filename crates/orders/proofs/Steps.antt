@@ -16,9 +16,10 @@ use Rattle.record.specs.Run.{record_at}
 use Rattle.record.specs.Journal.{entries_from}
 use Rattle.runs.proofs.Run.{record_take}
 use Rattle.code.specs.declared.Opened.{Opened}
-use Rattle.code.specs.declared.Standing.TheVariants as standing
+use Rattle.std.specs.Prelude.{Ok}
 use Rattle.at_record.specs.Outcome.{Reader, syndrome_of}
-use Rattle.asked.specs.Pass.{Pass, State, room_in}
+use Rattle.asked.specs.declared.Pass.{Pass}
+use Rattle.asked.specs.Pass.{State, room_in}
 use Rattle.pass.specs.Pass.{After, noted_run, needed_run, tally_run, reader_of, after_pass}
 use Rattle.asked.specs.Asked.{Run, GoesOn}
 use Rattle.pass.proofs.Answers.{answer-done}
@@ -44,7 +45,7 @@ pub later_goes_on : (d x y : ℕ) (journal : List ℕ) (used : ℕ) → x ≤ y 
 later_goes_on d x y journal used h (inl z) = inl z
 later_goes_on d x y journal used h (inr l) = inr (omega arith)
 
-module _ (o : Opened) (d : ℕ) (taken : o.standing ≡ standing.Accepted) where
+module _ (o : Opened) (d : ℕ) (taken : o.standing ≡ Ok tt) where
   abbrev f : Reader
   f = reader_of o d
 

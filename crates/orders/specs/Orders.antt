@@ -7,7 +7,8 @@ use Rattle.record.specs.Bytes.{byte_span}
 use Rattle.record.specs.Layout.{stamp_size, Entry}
 use Rattle.record.specs.Journal.{entries_from}
 use Rattle.at_record.specs.Outcome.{Reader}
-use Rattle.asked.specs.Pass.{Pass, State, room_in}
+use Rattle.asked.specs.declared.Pass.{Pass}
+use Rattle.asked.specs.Pass.{State, room_in}
 use Rattle.pass.specs.Pass.{After, needed_run}
 use Rattle.asked.specs.Asked.{Image, Run, GoesOn}
 use Rattle.passes.specs.Twice.{state_in}

@@ -5,14 +5,15 @@ use mathlib.Core.Logic.{◌≢◌}
 use Prim.Native.Nat.{ℕ, ◌-◌, ◌≤◌, ◌<◌}
 use native.Mathlib.Omega.{arith}
 use Rattle.code.specs.declared.Opened.{Opened}
-use Rattle.code.specs.declared.Standing.TheVariants as standing
-use Rattle.asked.specs.Pass.{Pass, State, room_in, wrong_in}
+use Rattle.std.specs.Prelude.{Ok}
+use Rattle.asked.specs.declared.Pass.{Pass}
+use Rattle.asked.specs.Pass.{State, room_in, wrong_in}
 use Rattle.pass.specs.Pass.{needed_run, reader_of, after_pass}
 use Rattle.asked.specs.Asked.{Image, NoImage, Run, NoRun, GoesBack, Askable}
 use Rattle.pass.proofs.Cases.{refused_with, done_with, refused-first, no_room, done, pass_accepted}
 use Rattle.asked.proofs.Cases.{wrong_12, wrong-14, wrong-17, wrong-16, wrong_none}
 
-module _ (o : Opened) (d : ℕ) (p : Pass) (s : State) (taken : o.standing ≡ standing.Accepted) where
+module _ (o : Opened) (d : ℕ) (p : Pass) (s : State) (taken : o.standing ≡ Ok tt) where
   -- a number that refuses it before its records are looked at
   refused_as : (n : ℕ) → wrong_in d p s ≡ n → n ≢ 0 → after_pass o d p s ≡ refused_with n 0 s
   refused_as n e z =

@@ -13,9 +13,10 @@ use Rattle.record.specs.Journal.{unclean, noted}
 use Rattle.runs.proofs.Run.{record_drop, sum_alike, gather_alike}
 use Rattle.runs.proofs.Tallies.{tally_same}
 use Rattle.code.specs.declared.Opened.{Opened}
-use Rattle.code.specs.declared.Standing.TheVariants as standing
+use Rattle.std.specs.Prelude.{Ok}
 use Rattle.at_record.specs.Outcome.{Reader, verdict_of, left_of, entry_of}
-use Rattle.asked.specs.Pass.{Pass, State}
+use Rattle.asked.specs.declared.Pass.{Pass}
+use Rattle.asked.specs.Pass.{State}
 use Rattle.pass.specs.Pass.{After, noted_run, needed_run, count_run, tally_run, behind, reader_of, after_pass}
 use Rattle.asked.specs.Asked.{Image, Run, Askable}
 use Rattle.pass.proofs.Cases.{refused_with, done_with, pass_refused}
@@ -96,7 +97,7 @@ module _ (o : Opened) (d : ℕ) (p : Pass) (s : State) (other : List ℕ) (long 
   needed_too : needed_run f other p.start p.end ≡ needed_run f s.image p.start p.end
   needed_too = same_needed f s.image other p.start p.end same
 
-  both_done : now s' ≡ done_with f p s' → now s ≡ done_with f p s → o.standing ≡ standing.Accepted → Alike
+  both_done : now s' ≡ done_with f p s' → now s ≡ done_with f p s → o.standing ≡ Ok tt → Alike
   both_done x y e =
       let tally = same_tally f s.image other p.start p.end same in
       let entries = same_noted f s.image other p.start p.end same p.stamp in

@@ -19,11 +19,12 @@ use Rattle.runs.proofs.Run.{record_length, record_drop}
 use Rattle.runs.proofs.Entries.{entry-back, length-entry}
 use Rattle.runs.proofs.Image.{after_stays, run-split}
 use Rattle.code.specs.declared.Opened.{Opened}
-use Rattle.code.specs.declared.Standing.TheVariants as standing
+use Rattle.std.specs.Prelude.{Ok}
 use Rattle.at_record.specs.Outcome.{Reader, syndrome_of, verdict_of, left_of, entry_of}
 use Rattle.at_record.proofs.Outcomes.{length-left_of, clean_kept}
 use Rattle.runs.proofs.Sizes.{number_below}
-use Rattle.asked.specs.Pass.{Pass, State}
+use Rattle.asked.specs.declared.Pass.{Pass}
+use Rattle.asked.specs.Pass.{State}
 use Rattle.pass.specs.Pass.{After, left_run, noted_run, needed_run, reader_of, after_pass}
 use Rattle.passes.proofs.Rows.{done-is}
 use Rattle.passes.proofs.Facts.{asked, rising, fits, in_use, count-noted_run}
@@ -182,7 +183,7 @@ module _ (f : Reader) (stamp : ℕ) (image : List ℕ) (a : ℕ) (small : stamp 
 -- ---- a done pass
 
 module _ (o : Opened) (p : Pass) (s : State) (d : ℕ)
-    (taken : o.standing ≡ standing.Accepted) (zero-told : (after_pass o d p s).answer.number ≡ 0)
+    (taken : o.standing ≡ Ok tt) (zero-told : (after_pass o d p s).answer.number ≡ 0)
     (narrow : (rec : List ℕ) → syndrome_of (reader_of o d) rec < byte_span syndrome_size) where
   abbrev now : After
   now = after_pass o d p s

@@ -16,13 +16,14 @@ use Rattle.runs.proofs.Tallies as tallies
 use Rattle.runs.proofs.Journal.{length-entries, count_entries, needed_or_clean}
 use Rattle.runs.proofs.Image as runs
 use Rattle.code.specs.declared.Opened.{Opened}
-use Rattle.code.specs.declared.Standing.TheVariants as standing
+use Rattle.std.specs.Prelude.{Ok}
 use Rattle.verdict.specs.declared.Verdict.{Verdict}
 use Rattle.verdict.specs.declared.Verdict.TheVariants.{Clean, Data, Check, Even, Odd, Stray}
 use Rattle.verdict.specs.Verdicts.{finding_of}
 use Rattle.reading.specs.Reading.{mended_by}
 use Rattle.at_record.specs.Outcome.{Reader, word_in, record_of, seen, syndrome_of, left_by, verdict_of, left_of, entry_of}
-use Rattle.asked.specs.Pass.{Pass, State, pass_over, room_in}
+use Rattle.asked.specs.declared.Pass.{Pass}
+use Rattle.asked.specs.Pass.{State, pass_over, room_in}
 use Rattle.pass.specs.Pass.{After, noted_run, needed_run, count_run, tally_run, behind, reader_of, after_pass}
 use Rattle.asked.specs.Asked.{Askable}
 use Rattle.runs.proofs.Sizes.{whole-fits, run-width}
@@ -145,7 +146,7 @@ module _ (f : Reader) (image : List ℕ) (a b : ℕ) (up : a ≤ b) (fits : b * 
 -- ---- a done pass
 
 module _ (o : Opened) (d : ℕ) (p : Pass) (s : State)
-    (taken : o.standing ≡ standing.Accepted) (zero-told : (after_pass o d p s).answer.number ≡ 0) where
+    (taken : o.standing ≡ Ok tt) (zero-told : (after_pass o d p s).answer.number ≡ 0) where
   abbrev f : Reader
   f = reader_of o d
 
@@ -307,7 +308,7 @@ module _ (o : Opened) (d : ℕ) (p : Pass) (s : State) where
   outcome = after_pass o d p s
 
   -- what a refused pass keeps, and a done one
-  either : (P : After → Type 0) → (o.standing ≡ standing.Accepted → outcome.answer.number ≡ 0 → P outcome)
+  either : (P : After → Type 0) → (o.standing ≡ Ok tt → outcome.answer.number ≡ 0 → P outcome)
       → ((x : After) → x.image ≡ s.image → x.journal ≡ s.journal → P x) → P outcome
   either P done-so same = go (ended o d p s)
     where
@@ -338,7 +339,7 @@ module _ (o : Opened) (d : ℕ) (p : Pass) (s : State) where
 
 -- ---- a run with equal ends is done: no byte changes, the count in use stays, and the tally is all zero
 
-pub empty_run : (o : Opened) (d : ℕ) (a stamp : ℕ) (s : State) → o.standing ≡ standing.Accepted → Askable d (pass_over a a stamp) s
+pub empty_run : (o : Opened) (d : ℕ) (a stamp : ℕ) (s : State) → o.standing ≡ Ok tt → Askable d (pass_over a a stamp) s
     → after_pass o d (pass_over a a stamp) s
     ≡ record { answer = record { number = 0; told = 0; used = s.used; tally = zero_tally }; image = s.image; journal = s.journal }
 unfolding add_up gather in_bytes

@@ -19,7 +19,7 @@ use Rattle.record.specs.Layout.{check_size, record_size}
 use Rattle.runs.proofs.Numbers.{byte_span_power}
 use Rattle.runs.proofs.Records.{length_record, data_back, check_back, data_halves}
 use Rattle.code.specs.declared.Opened.{Opened}
-use Rattle.code.specs.declared.Standing.TheVariants as standing
+use Rattle.std.specs.Prelude.{Ok}
 use Rattle.code.specs.Opened.{columns_of, Laid, SoundOpened}
 use Rattle.word.specs.declared.Word.{Word}
 use Rattle.verdict.specs.declared.Verdict.{Verdict}
@@ -64,7 +64,7 @@ both_fit n k w = go (strays k (joined w.low w.high)) (strays (n - k) w.check) re
     go false true hx hy h = absurd (true≢false h)
     go false false hx hy h = (leb-false (2 ^ k) (joined w.low w.high) hx, leb-false (2 ^ (n - k)) w.check hy)
 
-module _ (o : Opened) (d : ℕ) (sound : SoundOpened o) (laid : Laid o) (held : Held d o.k) (taken : o.standing ≡ standing.Accepted) where
+module _ (o : Opened) (d : ℕ) (sound : SoundOpened o) (laid : Laid o) (held : Held d o.k) (taken : o.standing ≡ Ok tt) where
   abbrev f : Reader
   f = reader_of o d
 

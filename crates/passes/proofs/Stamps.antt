@@ -19,8 +19,9 @@ use Rattle.runs.proofs.Run.{record_take}
 use Rattle.runs.proofs.Entries.{stamp_said}
 use Rattle.code.specs.declared.Opened.{Opened}
 use Rattle.code.specs.declared.Refusal.{Refusal}
-use Rattle.code.specs.declared.Standing.TheVariants as standing
-use Rattle.asked.specs.Pass.{Pass, State, room_in, stamp_at}
+use Rattle.std.specs.Prelude.{Ok, Err}
+use Rattle.asked.specs.declared.Pass.{Pass}
+use Rattle.asked.specs.Pass.{State, room_in, stamp_at}
 use Rattle.pass.specs.Pass.{After, needed_run, reader_of, after_pass}
 use Rattle.asked.specs.Asked.{GoesOn}
 use Rattle.passes.specs.Twice.{state_after, Step, steps_after}
@@ -30,7 +31,7 @@ use Rattle.passes.proofs.Facts.{asked, in_use_after, entered, entry-is, entry_wh
 -- ---- a done pass
 
 module _ (o : Opened) (d : ℕ) (p : Pass) (s : State)
-    (taken : o.standing ≡ standing.Accepted) (zero-told : (after_pass o d p s).answer.number ≡ 0) where
+    (taken : o.standing ≡ Ok tt) (zero-told : (after_pass o d p s).answer.number ≡ 0) where
   abbrev now : After
   now = after_pass o d p s
 
@@ -85,7 +86,7 @@ pub record Rising (d : ℕ) (s : State) : Type 0 where
 
 -- a refused code tells a number
 abbrev pub Known : Opened → Type 0
-Known o = (g : Refusal) → o.standing ≡ standing.Refused g → g.number ≢ 0
+Known o = (g : Refusal) → o.standing ≡ Err g → g.number ≢ 0
 
 module _ (o : Opened) (d : ℕ) (p : Pass) (s : State) where
   abbrev after : State
@@ -117,7 +118,7 @@ module _ (o : Opened) (d : ℕ) (p : Pass) (s : State) where
     used = (ap (λ x. cond (eqb x.answer.number 0) x.answer.used s.used) e ∙ ap (λ b. cond b 0 s.used) (ne_eqb number 0 n)) i;
   }
 
-  module _ (taken : o.standing ≡ standing.Accepted) (zero-told : (after_pass o d p s).answer.number ≡ 0) where
+  module _ (taken : o.standing ≡ Ok tt) (zero-told : (after_pass o d p s).answer.number ≡ 0) where
     pub used-after : after.used ≡ s.used + needed_run (reader_of o d) s.image p.start p.end
     used-after =
         ap (λ b. cond b (after_pass o d p s).answer.used s.used) (eq-eqb _ _ zero-told) ∙ used_is o d p s taken zero-told

@@ -22,10 +22,11 @@ use Rattle.runs.proofs.Entries.{in_bytes-append}
 use Rattle.runs.proofs.Tallies.{tally_same}
 use Rattle.runs.proofs.Image.{sum-split, gather-split, run-split}
 use Rattle.code.specs.declared.Opened.{Opened}
-use Rattle.code.specs.declared.Standing.TheVariants as standing
+use Rattle.std.specs.Prelude.{Ok}
 use Rattle.code.specs.Opened.{Laid, SoundOpened}
 use Rattle.at_record.specs.Outcome.{Reader, Held, verdict_of, left_of, entry_of}
-use Rattle.asked.specs.Pass.{Pass, State, pass_over, state_of, room_in}
+use Rattle.asked.specs.declared.Pass.{Pass}
+use Rattle.asked.specs.Pass.{State, pass_over, state_of, room_in}
 use Rattle.pass.specs.Pass.{After, left_run, noted_run, needed_run, count_run, tally_run, behind, reader_of, after_pass}
 use Rattle.asked.specs.Asked.{GoesOn, Askable}
 use Rattle.at_record.proofs.Outcomes.{length-left_of}
@@ -67,7 +68,7 @@ tally_again_lem size verdict top run now (suc k) h =
     ∙ one_again (verdict (record_at size run k)) (top (record_at size run k)))
     ∙ added_again (tally_of size verdict run k) (tally_by (λ u. cond (eqb (verdict (record_at size run k)) u) 1 0))
 
-module _ (o : Opened) (d : ℕ) (sound : SoundOpened o) (laid : Laid o) (held : Held d o.k) (taken : o.standing ≡ standing.Accepted)
+module _ (o : Opened) (d : ℕ) (sound : SoundOpened o) (laid : Laid o) (held : Held d o.k) (taken : o.standing ≡ Ok tt)
     (p : Pass) (s : State) (narrow : (o.k ≤ 64) ⊎ AllBytes s.image) (zero-told : (after_pass o d p s).answer.number ≡ 0) where
   abbrev f : Reader
   f = reader_of o d
@@ -162,7 +163,7 @@ module _ (f : Reader) (image now : List ℕ) (b c : ℕ)
   rest-noted : (stamp : ℕ) → noted_run f stamp now b c ≡ noted_run f stamp image b c
   rest-noted stamp = ap (λ l. gather (record_size f.d) (λ i. noted (verdict_of f) (entry_of f stamp) (b + i)) l (c - b)) same
 
-module _ (o : Opened) (d a b c stamp : ℕ) (s : State) (taken : o.standing ≡ standing.Accepted) where
+module _ (o : Opened) (d a b c stamp : ℕ) (s : State) (taken : o.standing ≡ Ok tt) where
   abbrev g : Reader
   g = reader_of o d
 

@@ -2,7 +2,8 @@
 use Rattle.std.specs.Prelude.{cond, ◌||◌, List, [], ◌∷◌, ℕ, ◌+◌, eqb}
 use Rattle.record.specs.declared.Tally.{Tally}
 use Rattle.code.specs.declared.Opened.{Opened}
-use Rattle.asked.specs.Pass.{Pass, State}
+use Rattle.asked.specs.declared.Pass.{Pass}
+use Rattle.asked.specs.Pass.{State}
 use Rattle.pass.specs.Pass.{After, after_pass}
 
 -- ---- the state that passes leave

@@ -1,12 +1,11 @@
 -- Which answer a put-back gives, from what its tests say. Assumes nothing.
-use mathlib.Core.Path.{◌≡◌, sym, ap, ◌∙◌}
+use mathlib.Core.Path.{◌≡◌}
 use mathlib.Core.Bool.{true, false}
 use mathlib.Core.List.{List}
 use Prim.Native.Nat.{ℕ, ◌≤◌, ◌<◌}
 use borrow.Author.Tests.{lt-ltb, le-ltb}
 use Rattle.asked.specs.Pass.{no_image, room_in}
-use Rattle.put_back.specs.declared.PutBack.{PutBack}
-use Rattle.put_back.specs.Back.{Returned, kept_by, returned_by, back_from, put_back_of}
+use Rattle.put_back.specs.Back.{kept_by, returned_by, back_from, put_back_of}
 
 module _ (d : ℕ) (image journal : List ℕ) (used : ℕ) where
   pub back_none : no_image d image ≡ true → put_back_of d image journal used ≡ kept_by 12 image
@@ -21,7 +20,3 @@ module _ (d : ℕ) (image journal : List ℕ) (used : ℕ) where
     pub back-all : used ≤ room_in d journal → put_back_of d image journal used ≡ returned_by (back_from d journal used 0 image)
     unfolding put_back_of
     back-all v = rw i (simp (le-ltb _ _ v))
-
-pub both : (x y : Returned) → x ≡ y → {answer : PutBack} {image : List ℕ} → answer ≡ y.answer → image ≡ y.image
-    → (answer ≡ x.answer) × (image ≡ x.image)
-both x y e p q = (p ∙ sym (ap (λ r. r.answer) e), q ∙ sym (ap (λ r. r.image) e))

@@ -1,7 +1,9 @@
 -- THE PUT-BACK (02's request 104): from the last entry in use to the first, each is put back where it matches. Over records with d bytes
 -- of data. Assumes nothing.
-use Rattle.std.specs.Prelude.{Bool, true, false, cond, List, ℕ, zero, suc, ltb}
+use Rattle.std.specs.Prelude.{Bool, true, false, cond, List, ℕ, zero, suc, ltb, Result, Ok, Err}
 use Rattle.put_back.specs.declared.PutBack.{PutBack}
+use Rattle.put_back.specs.declared.Refusal.{Refusal}
+use Rattle.put_back.specs.declared.Refusal.TheVariants.{NoImage, Overfull, NoMatch}
 use Rattle.asked.specs.Pass.{no_image, room_in}
 use Rattle.record.specs.Journal.{entry_at}
 use Rattle.entry_back.specs.Entry.{matches, undone}
@@ -28,13 +30,23 @@ pub record Returned : Type 0 where
 abbrev pub refused_back : ℕ → PutBack
 refused_back number = record { number = number; told = 0; count = 0 }
 
+-- how many are put back where all match, or how many where it stopped; and what is told of it, and of a refusal
+abbrev pub answer_of : Back → Result ℕ Refusal
+answer_of b = cond b.stopped (Err (NoMatch b.count)) (Ok b.count)
+
+abbrev pub told_by : Result ℕ Refusal → PutBack
+told_by (Ok count) = record { number = 0; told = 0; count = count }
+told_by (Err NoImage) = refused_back 12
+told_by (Err Overfull) = refused_back 17
+told_by (Err (NoMatch count)) = record { number = 18; told = 0; count = count }
+
 -- a refusal by 12 or 17 changes no byte
 abbrev pub kept_by : ℕ → List ℕ → Returned
 kept_by number image = record { answer = refused_back number; image = image }
 
 -- done, or 18 where it stopped; those put back stay either way, and how many they are is handed back
 abbrev pub returned_by : Back → Returned
-returned_by b = record { answer = record { number = cond b.stopped 18 0; told = 0; count = b.count }; image = b.image }
+returned_by b = record { answer = told_by (answer_of b); image = b.image }
 
 unfoldable pub put_back_of : ℕ → List ℕ → List ℕ → ℕ → Returned
 put_back_of d image journal used =

@@ -3,9 +3,18 @@
 
 ghost use Rattle.std.specs.Prelude.{◌≡◌, ◌≤◌};
 ghost use Rattle.asked.specs.Pass.{room_in};
-ghost use Rattle.put_back.specs.Back.{refused_back, returned_by, back_from, put_back_of};
+ghost use Rattle.put_back.specs.Back.{told_by, answer_of, back_from, put_back_of};
 
-use entry_back::Step;
+use reader::Reader;
+
+// Why a put-back says no: the bytes are no image, more entries are in use than the journal has room for, or an entry does not match behind
+// `count` others that were put back.
+#[derive(Clone, Copy)]
+enum Refusal {
+    NoImage,
+    Overfull,
+    NoMatch { count: usize },
+}
 
 // The answer of a put-back: how many entries were put back, also where it stopped (18).
 #[repr(C)]
@@ -16,41 +25,60 @@ pub struct PutBack {
     pub count: usize,
 }
 
-fn refused_back(number: usize) -> PutBack
-    ensures { result ≡ refused_back number }
-{
-    PutBack {
-        number,
-        told: 0,
-        count: 0,
+// Numbers, as C has them.
+impl From<Result<usize, Refusal>> for PutBack {
+    ghost from_gives = { λ done answer. answer ≡ told_by done };
+
+    fn from(done: Result<usize, Refusal>) -> PutBack {
+        let (number, count) = match done {
+            Ok(count) => (0, count),
+            Err(Refusal::NoImage) => (12, 0),
+            Err(Refusal::Overfull) => (17, 0),
+            Err(Refusal::NoMatch { count }) => (18, count),
+        };
+        PutBack {
+            number,
+            told: 0,
+            count,
+        }
     }
 }
 
 // From the last entry in use to the first; it stops at the first that does not match.
-fn back_in(d: usize, image: &mut [u8], journal: &[u8], used: usize) -> PutBack
+fn back_in(d: usize, image: &mut [u8], journal: &[u8], used: usize) -> Result<usize, Refusal>
     requires d_bound { d ≤ 16 }
     requires used_bound { used ≤ room_in d journal.now }
-    ensures value { result ≡ (returned_by (back_from d journal.now used 0 image.old)).answer }
-    ensures image_after { image.new ≡ (returned_by (back_from d journal.now used 0 image.old)).image }
+    ensures value { result ≡ answer_of (back_from d journal.now used 0 image.old) }
+    ensures image_after { image.new ≡ (back_from d journal.now used 0 image.old).image }
 {
-    let mut place = used;
-    while 0 < place {
-        match reader::step_through(d, image, journal, place) {
-            Step::Back(next) => place = next,
-            Step::Stop => {
-                return PutBack {
-                    number: 18,
-                    told: 0,
-                    count: used - place,
-                };
-            }
+    let mut reader = Reader {
+        journal,
+        place: used,
+    };
+    // A `while`: it goes by the place that the reader holds, and counts nothing beside it.
+    while 0 < reader.place {
+        if reader.step_back(d, image).is_none() {
+            let count = used - reader.place;
+            return Err(Refusal::NoMatch { count });
         }
     }
-    PutBack {
-        number: 0,
-        told: 0,
-        count: used,
+    Ok(used)
+}
+
+// How many entries are put back, or why it says no.
+#[tactic(auto, unfolding(crate::specs::Back::put_back_of))]
+fn asked_back(d: usize, image: &mut [u8], journal: &[u8], used: usize) -> Result<usize, Refusal>
+    requires { d ≤ 16 }
+    ensures value { told_by result ≡ (put_back_of d image.old journal.now used).answer }
+    ensures image_after { image.new ≡ (put_back_of d image.old journal.now used).image }
+{
+    if asked::no_image(d, image) {
+        return Err(Refusal::NoImage);
     }
+    if used > asked::room(d, journal) {
+        return Err(Refusal::Overfull);
+    }
+    back_in(d, image, journal, used)
 }
 
 // The put-back of an image with d bytes of data in each record; `used` entries of the journal are in use.
@@ -59,11 +87,5 @@ pub fn put_back(d: usize, image: &mut [u8], journal: &[u8], used: usize) -> PutB
     ensures value { result ≡ (put_back_of d image.old journal.now used).answer }
     ensures image_after { image.new ≡ (put_back_of d image.old journal.now used).image }
 {
-    if asked::no_image(d, image) {
-        return refused_back(12);
-    }
-    if used > asked::room(d, journal) {
-        return refused_back(17);
-    }
-    back_in(d, image, journal, used)
+    PutBack::from(asked_back(d, image, journal, used))
 }

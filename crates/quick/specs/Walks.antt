@@ -16,6 +16,12 @@ pub record FirstFits (f : Reader) (run list : List ℕ) : Type 0 where
 abbrev pub ListedIn : Reader → List ℕ → List ℕ → ℕ → Type 0
 ListedIn f run list bad = ListedBy (record_size f.d) (verdict_of f) (mixed_of f) run (records_in f.d run) list bad
 
+-- a list of the records of a run that are not clean
+pub record Found (f : Reader) (list : List ℕ) (bad : ℕ) (run : List ℕ) : Type 0 where
+  pub count : bad ≡ needed_by f run
+  pub inside : bad ≤ length list
+  pub listed : ListedIn f run list bad
+
 -- what the plain pass asks of a run, and the list of its records that are not clean
 pub record Listing (f : Reader) (list : List ℕ) (bad : ℕ) (run : List ℕ) (first : ℕ) (journal : List ℕ) : Type 0 where
   pub fits : RunFits f run first journal

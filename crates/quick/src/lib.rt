@@ -5,17 +5,21 @@ ghost use Rattle.std.specs.Prelude.{◌≡◌, ◌*◌, ◌-◌, ◌≤◌, leng
 ghost use Rattle.record.specs.Layout.{record_size, in_bytes};
 ghost use Rattle.record.specs.Run.{over};
 ghost use Rattle.code.specs.Opened.{Laid};
-ghost use Rattle.at_record.specs.Outcome.{reader, Held, Ready};
+ghost use Rattle.at_record.specs.Outcome.{Held};
+ghost use Rattle.at_record.specs.Under.{under};
 ghost use Rattle.over_run.specs.Whole.{needed_by, tally_in, left_in, entries_by};
-ghost use Rattle.asked.specs.Pass.{pass_over, state_of, wrong_in};
-ghost use Rattle.pass.specs.Pass.{pass_in, after_pass};
+ghost use Rattle.asked.specs.Pass.{state_of, wrong_in};
+ghost use Rattle.pass.specs.Pass.{answered, pass_in, after_pass};
 ghost use Rattle.tables.specs.Tables.{values_in};
-ghost use Rattle.quick.specs.Walks.{FirstFits, ListedIn, Listing};
+ghost use Rattle.quick.specs.Walks.{FirstFits, Found, Listing, ListedIn};
 
-use code::{Opened, Refusal, Standing};
+use asked::Pass;
+use at_record::RecordReader;
+use code::{Opened, Refusal};
 use guess::{NONE, SLOTS};
-use pass::PassAnswer;
-use record::{CHECK, DATA, HEAD, Tally};
+use marks::Looker;
+use pass::{PassAnswer, Walks};
+use record::{CHECK, DATA, Tally};
 
 // The tables of records of 10 bytes and of the longest ones, whole bytes or by their halves.
 const WHOLE: usize = 2560;
@@ -37,242 +41,172 @@ const LONG: usize = 6553;
 fn walk_by(
     table: &mut [u16],
     halves: bool,
-    columns: &[u16],
-    k: usize,
-    rows: u16,
-    d: usize,
+    reader: RecordReader,
     list: &mut [u32],
     run: &[u8],
 ) -> usize
-    requires first_fits { FirstFits (reader columns.now k rows d) run.now list.old }
-    requires d_in_bounds { values_in halves * record_size d ≤ length table.old }
-    ensures value { result ≡ needed_by (reader columns.now k rows d) run.now }
-    ensures listed_in { ListedIn (reader columns.now k rows d) run.now list.new result }
+    requires first_fits { FirstFits (under reader) run.now list.old }
+    requires room { values_in halves * record_size reader.form.d ≤ length table.old }
+    ensures value { result ≡ needed_by (under reader.entry) run.now }
+    ensures listed_in { ListedIn (under reader.entry) run.now list.new result }
 {
-    let top = tables::values(halves) * (d + CHECK);
-    tables::fill_record(&mut table[0..top], columns, k, d, halves);
-    let strays = marks::stray_bits(columns.len(), k);
-    marks::listed_by(list, &table[..top], halves, d, strays, run)
+    let columns = reader.columns;
+    let form = reader.form;
+    let top = tables::values(halves) * (form.d + CHECK);
+    let filled = &mut table[..top];
+    tables::fill_record(filled, columns, form.k, form.d, halves);
+    let looker = Looker {
+        table: filled,
+        halves,
+        d: form.d,
+        strays: marks::stray_bits(columns.len(), form.k),
+    };
+    looker.listed_by(list, run)
+}
+
+// The same with a table of N places.
+fn walk_with<const N: usize>(
+    halves: bool,
+    reader: RecordReader,
+    list: &mut [u32],
+    run: &[u8],
+) -> usize
+    requires first_fits { FirstFits (under reader) run.now list.old }
+    requires room { values_in halves * record_size reader.form.d ≤ N }
+    requires size { N ≤ LONG_WHOLE }
+    ensures value { result ≡ needed_by (under reader.entry) run.now }
+    ensures listed_in { ListedIn (under reader.entry) run.now list.new result }
+{
+    let mut table = [0u16; N];
+    walk_by(&mut table, halves, reader, list, run)
 }
 
 // The same by the tables that are quicker for so many records.
-fn first_walk(columns: &[u16], k: usize, rows: u16, d: usize, list: &mut [u32], run: &[u8]) -> usize
-    requires { FirstFits (reader columns.now k rows d) run.now list.old }
-    ensures value { result ≡ needed_by (reader columns.now k rows d) run.now }
-    ensures listed_in { ListedIn (reader columns.now k rows d) run.now list.new result }
+fn first_walk(reader: RecordReader, list: &mut [u32], run: &[u8]) -> usize
+    requires { FirstFits (under reader) run.now list.old }
+    ensures value { result ≡ needed_by (under reader.entry) run.now }
+    ensures listed_in { ListedIn (under reader.entry) run.now list.new result }
 {
+    let d = reader.form.d;
     let brief = run.len() <= BRIEF * (d + CHECK);
-    if d == DATA {
-        if brief {
-            let mut table = [0u16; HALVES];
-            return walk_by(&mut table, true, columns, k, rows, d, list, run);
-        }
-        let mut table = [0u16; WHOLE];
-        return walk_by(&mut table, false, columns, k, rows, d, list, run);
+    match (d == DATA, brief) {
+        (true, true) => walk_with::<HALVES>(true, reader, list, run),
+        (true, false) => walk_with::<WHOLE>(false, reader, list, run),
+        (false, true) => walk_with::<LONG_HALVES>(true, reader, list, run),
+        (false, false) => walk_with::<LONG_WHOLE>(false, reader, list, run),
     }
-    if brief {
-        let mut table = [0u16; LONG_HALVES];
-        return walk_by(&mut table, true, columns, k, rows, d, list, run);
-    }
-    let mut table = [0u16; LONG_WHOLE];
-    walk_by(&mut table, false, columns, k, rows, d, list, run)
 }
 
 // The second walk: the listed records are mended and entered.
 fn second_walk(
-    columns: &[u16],
-    k: usize,
-    rows: u16,
-    d: usize,
+    reader: RecordReader,
     list: &[u32],
-    bad: usize,
     run: &mut [u8],
     first: usize,
     journal: &mut [u8],
     stamp: u32,
 ) -> Tally
-    requires { Listing (reader columns.now k rows d) list.now bad run.old first journal.old }
-    ensures value { result ≡ tally_in (reader columns.now k rows d) run.old }
-    ensures run_after { run.new ≡ left_in (reader columns.now k rows d) run.old }
-    ensures journal_after { journal.new
-        ≡ over (in_bytes (entries_by (reader columns.now k rows d) stamp first run.old))
-        journal.old }
+    requires { Listing (under reader) list.now (length list.now) run.old first journal.old }
+    ensures value { result ≡ tally_in (under reader.entry) run.old }
+    ensures run_after { run.new ≡ left_in (under reader.entry) run.old }
+    ensures journal_after { journal.new ≡ over (in_bytes (entries_by (under reader.entry) stamp first run.old)) journal.old }
 {
     let mut guesses = [NONE; SLOTS];
-    guess::fill_guesses(&mut guesses, columns);
-    by_list::mended(
-        columns, &guesses, k, rows, d, list, bad, run, first, journal, stamp,
-    )
+    guess::fill_guesses(&mut guesses, reader.columns);
+    by_list::mended(reader, &guesses, list, run, first, journal, stamp)
 }
 
-// Both walks over the run of an image, where nothing is asked wrongly: nothing is written before the room that is left in the journal is
-// known.
-fn both_walks(
-    columns: &[u16],
-    k: usize,
-    rows: u16,
-    d: usize,
-    list: &mut [u32],
-    image: &mut [u8],
-    start: usize,
-    end: usize,
-    journal: &mut [u8],
-    used: usize,
-    stamp: u32,
-) -> PassAnswer
-    requires ready { Ready (reader columns.now k rows d) }
-    requires used_value { wrong_in d (pass_over start end stamp) (state_of image.old journal.old used) ≡ 0 }
-    requires start_in_bounds { end - start ≤ length list.old }
-    ensures value { result ≡ (pass_in (reader columns.now k rows d) (pass_over start end stamp)
-        (state_of image.old journal.old used)).answer }
-    ensures image_after { image.new ≡ (pass_in (reader columns.now k rows d) (pass_over start end stamp)
-        (state_of image.old journal.old used)).image }
-    ensures journal_after { journal.new ≡ (pass_in (reader columns.now k rows d) (pass_over start end stamp)
-        (state_of image.old journal.old used)).journal }
-{
-    let size = d + CHECK;
-    let step = HEAD + 2 * size;
-    let from = start * size;
-    let to = end * size;
-    let wanted = first_walk(columns, k, rows, d, list, &image[from..to]);
-    if journal.len() / step - used < wanted {
-        return pass::refused_pass(Refusal {
-            number: 13,
-            told: wanted,
-        });
+// What the first walk lists of a run of no more than N records, and how many these are.
+#[derive(Drop)]
+struct Finds<const N: usize> {
+    list: [u32; N],
+    bad: usize,
+}
+
+impl<const N: usize> Walks for Finds<N> {
+    ghost has_room = { λ finds n. n ≤ length finds.list };
+
+    ghost walked = { λ finds f run. Found f finds.list finds.bad run };
+
+    fn needed(&mut self, reader: RecordReader, run: &[u8]) -> usize {
+        self.bad = first_walk(reader, &mut self.list, run);
+        self.bad
     }
-    let at = used * step;
-    let run = &mut image[from..to];
-    let free = &mut journal[at..];
-    let tally = second_walk(
-        columns,
-        k,
-        rows,
-        d,
-        &list[..],
-        wanted,
-        run,
-        start,
-        free,
-        stamp,
-    );
-    PassAnswer {
-        number: 0,
-        told: 0,
-        used: used + wanted,
-        tally,
+
+    fn pass_run(
+        &self,
+        reader: RecordReader,
+        run: &mut [u8],
+        first: usize,
+        journal: &mut [u8],
+        stamp: u32,
+    ) -> Tally {
+        second_walk(reader, &self.list[..self.bad], run, first, journal, stamp)
     }
 }
 
-// A pass over more than a brief run, with a list for as many records as it may have: a list is written with zeros first, so that a longer
-// one takes longer.
-fn pass_listed(
-    columns: &[u16],
-    k: usize,
-    rows: u16,
-    d: usize,
+// Both walks with a list of N: it is written with zeros first, so that a longer one takes longer.
+fn with_list<const N: usize>(
+    reader: RecordReader,
+    over: Pass,
     image: &mut [u8],
-    start: usize,
-    end: usize,
     journal: &mut [u8],
     used: usize,
-    stamp: u32,
-) -> PassAnswer
-    requires ready { Ready (reader columns.now k rows d) }
-    requires used_value { wrong_in d (pass_over start end stamp) (state_of image.old journal.old used) ≡ 0 }
-    ensures value { result ≡ (pass_in (reader columns.now k rows d) (pass_over start end stamp)
-        (state_of image.old journal.old used)).answer }
-    ensures image_after { image.new ≡ (pass_in (reader columns.now k rows d) (pass_over start end stamp)
-        (state_of image.old journal.old used)).image }
-    ensures journal_after { journal.new ≡ (pass_in (reader columns.now k rows d) (pass_over start end stamp)
-        (state_of image.old journal.old used)).journal }
+) -> Result<PassAnswer, Refusal>
+    requires right { wrong_in reader.form.d over (state_of image.old journal.old used) ≡ 0 }
+    requires room { over.end - over.start ≤ N }
+    requires size { N ≤ LONG }
+    ensures value { answered result ≡ (pass_in (under reader.entry) over (state_of image.old journal.old used)).answer }
+    ensures image_after { image.new ≡ (pass_in (under reader.entry) over (state_of image.old journal.old used)).image }
+    ensures journal_after { journal.new ≡ (pass_in (under reader.entry) over (state_of image.old journal.old used)).journal }
 {
-    if end - start <= SHORT {
-        let mut short = [0u32; SHORT];
-        return both_walks(
-            columns, k, rows, d, &mut short, image, start, end, journal, used, stamp,
-        );
-    }
-    let mut long = [0u32; LONG];
-    both_walks(
-        columns, k, rows, d, &mut long, image, start, end, journal, used, stamp,
-    )
+    let mut finds = Finds::<N> {
+        list: [0; N],
+        bad: 0,
+    };
+    pass::both_walks(&mut finds, reader, over, image, journal, used)
 }
 
-// A pass under the n columns of a code.
-fn pass_in(
-    columns: &[u16],
-    k: usize,
-    rows: u16,
+// A pass with a list for as many records as it may have.
+fn pass_under(
+    opened: &Opened,
     d: usize,
+    over: Pass,
     image: &mut [u8],
-    start: usize,
-    end: usize,
     journal: &mut [u8],
     used: usize,
-    stamp: u32,
-) -> PassAnswer
-    requires { Ready (reader columns.now k rows d) }
-    ensures value { result ≡ (pass_in (reader columns.now k rows d) (pass_over start end stamp)
-        (state_of image.old journal.old used)).answer }
-    ensures image_after { image.new ≡ (pass_in (reader columns.now k rows d) (pass_over start end stamp)
-        (state_of image.old journal.old used)).image }
-    ensures journal_after { journal.new ≡ (pass_in (reader columns.now k rows d) (pass_over start end stamp)
-        (state_of image.old journal.old used)).journal }
+) -> Result<PassAnswer, Refusal>
+    requires laid { Laid opened.now }
+    requires held { Held d opened.now.k }
+    ensures value { answered result ≡ (after_pass opened.now d over (state_of image.old journal.old used)).answer }
+    ensures image_after { image.new ≡ (after_pass opened.now d over (state_of image.old journal.old used)).image }
+    ensures journal_after { journal.new ≡ (after_pass opened.now d over (state_of image.old journal.old used)).journal }
 {
-    let wrong = asked::wrong_in(d, &image[..], start, end, &journal[..], used, stamp);
-    if wrong != 0 {
-        return pass::refused_pass(Refusal {
-            number: wrong,
-            told: 0,
-        });
+    let reader = pass::reader_for(opened, d, over, image, journal, used)?;
+    let records = over.end - over.start;
+    if records <= BRIEF {
+        return with_list::<BRIEF>(reader, over, image, journal, used);
     }
-    if end - start <= BRIEF {
-        let mut brief = [0u32; BRIEF];
-        return both_walks(
-            columns, k, rows, d, &mut brief, image, start, end, journal, used, stamp,
-        );
+    if records <= SHORT {
+        return with_list::<SHORT>(reader, over, image, journal, used);
     }
-    pass_listed(columns, k, rows, d, image, start, end, journal, used, stamp)
+    with_list::<LONG>(reader, over, image, journal, used)
 }
 
 // The plain pass's contract, word for word.
 pub fn pass(
     opened: Opened,
     d: usize,
+    over: Pass,
     image: &mut [u8],
-    start: usize,
-    end: usize,
     journal: &mut [u8],
     used: usize,
-    stamp: u32,
 ) -> PassAnswer
     requires laid { Laid opened }
     requires held { Held d opened.k }
-    ensures value { result ≡ (after_pass opened d (pass_over start end stamp)
-        (state_of image.old journal.old used)).answer }
-    ensures image_after { image.new ≡ (after_pass opened d (pass_over start end stamp)
-        (state_of image.old journal.old used)).image }
-    ensures journal_after { journal.new ≡ (after_pass opened d (pass_over start end stamp)
-        (state_of image.old journal.old used)).journal }
+    ensures value { result ≡ (after_pass opened d over (state_of image.old journal.old used)).answer }
+    ensures image_after { image.new ≡ (after_pass opened d over (state_of image.old journal.old used)).image }
+    ensures journal_after { journal.new ≡ (after_pass opened d over (state_of image.old journal.old used)).journal }
 {
-    let standing = opened.standing;
-    if let Standing::Refused(refusal) = standing {
-        return pass::refused_pass(refusal);
-    }
-    let k = opened.k;
-    let n = opened.n;
-    let columns = opened.columns;
-    pass_in(
-        &columns[..n],
-        k,
-        opened.rows,
-        d,
-        image,
-        start,
-        end,
-        journal,
-        used,
-        stamp,
-    )
+    pass_under(&opened, d, over, image, journal, used).unwrap_or_else(PassAnswer::from)
 }

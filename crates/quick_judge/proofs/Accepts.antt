@@ -12,6 +12,8 @@ use lib.Count.{ones}
 use lib.Dec.{eqb, ltb, leb}
 use lib.ListN.{length, take, drop}
 use lib.Pow.{pow_mono}
+use Rattle.std.specs.Prelude.{Ok, Err}
+use Rattle.std.specs.Result.{is_ok}
 use Rattle.parity.specs.Odd.{odd_ones, odd_in, is_odd, all_rows}
 use Rattle.parity.proofs.Ones.{zero-ones}
 use Rattle.parity.proofs.Rows.{odd_all}
@@ -19,13 +21,11 @@ use Rattle.parity.specs.Below.{all_below}
 use Rattle.parity.proofs.Tested.{all_at}
 use Rattle.columns.specs.Mix.{column, place_in}
 use Rattle.columns.proofs.Places.{place_first}
-use Rattle.judge.specs.declared.Judged.TheVariants as judged
-use Rattle.judge.specs.Judge.{judge_rest, judge_in}
+use Rattle.judge.specs.Judge.{Judged, judge_rest, judge_in}
 use Rattle.judge.specs.Rule.{Limits, Empty, FineAt}
 use Rattle.judge.proofs.Rest.{SaysOfRest, rest-says}
 use Rattle.judge.proofs.Rule.{rule-of}
 use Rattle.judge.proofs.Table.{judge_rule}
-use Rattle.row_judge.specs.declared.JudgedRows.TheVariants as judgedRows
 use Rattle.row_judge.specs.Judge.{no_set, not_triangular, judge_rows_in}
 use Rattle.row_judge.proofs.Table.{set_told, corner_told, rows_rule}
 use Rattle.quick_judge.specs.Quick.{in_limits, fine_column, settled_at, all_settled, shaped_rows}
@@ -108,15 +108,20 @@ module _ (cs : List ℕ) (r rows : ℕ) (singles : Bool) (e : all_settled cs r r
   pub settled_some : (i : ℕ) → i < length cs → column cs i ≢ 0
   settled_some i h z = omega (arith, settled_odd i h, ap (odd_in rows) z, zero-ones)
 
+-- what is asked of the judge's answer
+pub is_accepted : (v : Judged) → is_ok v ≡ true → v ≡ Ok tt
+is_accepted (Ok u) e = refl
+is_accepted (Err f) e = absurd (false≢true e)
+
 -- nothing is left over where the rest is accepted
-pub rest_empty : (places : List ℕ) (k : ℕ) → judge_rest places k ≡ judged.Accepted → Empty places k
+pub rest_empty : (places : List ℕ) (k : ℕ) → judge_rest places k ≡ Ok tt → Empty places k
 rest_empty places k e = subst (SaysOfRest places k) e (rest-says places k)
 
 -- ---- THE LAWS: what is quickly accepted the plain judge accepts
 
 pub hsiao_accepted : (most : ℕ) (places : List ℕ) (k r : ℕ) → Limits most k r
-    → all_settled (take k places) r 65535 false ≡ true → judge_rest places k ≡ judged.Accepted
-    → judge_in most places k r ≡ judged.Accepted
+    → all_settled (take k places) r 65535 false ≡ true → judge_rest places k ≡ Ok tt
+    → judge_in most places k r ≡ Ok tt
 hsiao_accepted most places k r limits e rest =
     (judge_rule most places k r).1
     (record { limits = limits; rule = rule-of (take k places) r fine; empty = rest_empty places k rest })
@@ -135,10 +140,10 @@ hsiao_accepted most places k r limits e rest =
           new = λ a. omega (arith, a.1, place_first cs x a.0 (omega (arith, a.1)) a.2, settled_first cs r 65535 false e i h);
         }
 
-pub rows-accepted : (most : ℕ) (places : List ℕ) (n r rows : ℕ) → Limits most (n - r) r
-    → all_settled (take n places) r rows true ≡ true → shaped_rows places n r rows ≡ true → judge_rest places n ≡ judged.Accepted
-    → judge_rows_in most places n r rows ≡ judgedRows.Accepted
-rows-accepted most places n r rows limits e shape rest =
+pub rows_accepted : (most : ℕ) (places : List ℕ) (n r rows : ℕ) → Limits most (n - r) r
+    → all_settled (take n places) r rows true ≡ true → shaped_rows places n r rows ≡ true → judge_rest places n ≡ Ok tt
+    → judge_rows_in most places n r rows ≡ Ok tt
+rows_accepted most places n r rows limits e shape rest =
     let cs = take n places in
     let checks = drop (n - r) cs in
     let s = passed (no_set r rows) (not (not_triangular checks)) shape in

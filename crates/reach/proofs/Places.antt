@@ -1,39 +1,47 @@
 -- A list of places walked from its front: one place more, none left; and what it means that nothing is wrong with it. Assumes nothing.
-use mathlib.Core.Path.{◌≡◌, refl}
-use mathlib.Core.Logic.{◌≢◌}
-use mathlib.Core.Bool.{Bool, true, false, cond, true≢false}
-use mathlib.Core.List.{List, ◌∷◌}
-use Prim.Native.Nat.{ℕ, ◌+◌, ◌≤◌, ◌<◌}
+use mathlib.Core.Path.{◌≡◌, refl, ap, ◌∙◌}
+use mathlib.Core.Bool.{Bool, true, false, cond, ◌||◌, true≢false}
+use mathlib.Core.List.{List, [], ◌∷◌}
+use Prim.Native.Nat.{ℕ, ◌+◌, ◌-◌, ◌≤◌, ◌<◌}
 use native.Mathlib.Numerals.{add-one}
-use borrow.Author.Tests.{eq-eqb, ne_eqb, leb-false, lt-ltb, le-ltb, ltb-false}
-use lib.Dec.{leb, ltb}
-use lib.ListN.{length, drop, drop_of_length-le, get_or}
+use borrow.Author.Tests.{leb-false, le-leb, lt-leb, ltb-false}
+use lib.Dec.{eqb, leb, ltb}
+use lib.ListN.{length, take, drop, drop_of_length-le, get_or}
 use lib.Seq.{drop-cons}
+use Rattle.std.specs.List.{list_any}
+use Rattle.word.proofs.Halves.{rest_all}
 use Rattle.reach.specs.Places.{stands, misnamed, wrong_places}
 
-module _ (ps : List ℕ) (p i : ℕ) where
-  pub stands_here : i < length ps → get_or ps i 0 ≡ p → stands p (drop i ps) ≡ true
-  unfolding stands
-  stands_here h e = rw (drop-cons ps i 0, eq-eqb _ _ e)
+-- the library's word for it, of the places behind one as the code lends them
+any_stands : (p : ℕ) (ps : List ℕ) → list_any (λ q. eqb q p) ps ≡ stands p ps
+unfolding stands
+any_stands p [] = refl
+any_stands p (q ∷ ps) = go (eqb q p) (any_stands p ps)
+  where
+    go : (b : Bool) → list_any (λ x. eqb x p) ps ≡ stands p ps → (b || list_any (λ x. eqb x p) ps) ≡ cond b true (stands p ps)
+    go true e = refl
+    go false e = e
 
-  pub stands_next : i < length ps → get_or ps i 0 ≢ p → stands p (drop i ps) ≡ stands p (drop (i + 1) ps)
-  unfolding stands
-  stands_next h e = rw (drop-cons ps i 0, add-one, ne_eqb _ _ e)
-
-  pub stands_past : length ps ≤ i → stands p (drop i ps) ≡ false
-  unfolding stands
-  stands_past h = rw (drop_of_length-le ps h)
-
-module _ (n : ℕ) (ps : List ℕ) (i : ℕ) where
-  pub misnamed-step : i < length ps
-      → misnamed n (drop i ps)
+-- place i of a list: it is at n or above, or else the tests go on
+module _ (n i : ℕ) (ps : List ℕ) (inside : i < length ps) where
+  misnamed_at : misnamed n (drop i ps)
       ≡ cond (leb n (get_or ps i 0)) true (cond (stands (get_or ps i 0) (drop (i + 1) ps)) true (misnamed n (drop (i + 1) ps)))
   unfolding misnamed
-  misnamed-step h = rw (drop-cons ps i 0, add-one)
+  misnamed_at = rw (drop-cons ps i 0, add-one)
 
-  pub misnamed_past : length ps ≤ i → misnamed n (drop i ps) ≡ false
-  unfolding misnamed
-  misnamed_past h = rw (drop_of_length-le ps h)
+  pub misnamed_above : n ≤ get_or ps i 0 → misnamed n (drop i ps) ≡ true
+  misnamed_above h = misnamed_at ∙ rw (le-leb n (get_or ps i 0) h)
+
+  pub misnamed_below : get_or ps i 0 < n → (b : Bool)
+      → b ≡ list_any (λ q. eqb q (get_or ps i 0)) (take (length ps - (i + 1)) (drop (i + 1) ps))
+      → misnamed n (drop i ps) ≡ cond b true (misnamed n (drop (i + 1) ps))
+  misnamed_below h b e =
+      let again = e ∙ any_stands (get_or ps i 0) _ ∙ ap (stands (get_or ps i 0)) (rest_all ps (i + 1)) in
+      misnamed_at ∙ rw (lt-leb n (get_or ps i 0) h, ← again)
+
+pub misnamed_past : (n i : ℕ) (ps : List ℕ) → length ps ≤ i → misnamed n (drop i ps) ≡ false
+unfolding misnamed
+misnamed_past n i ps h = rw (drop_of_length-le ps h)
 
 -- what nothing wrong with a list says of its first place
 pub named-first : (n p : ℕ) (ps : List ℕ) → misnamed n (p ∷ ps) ≡ false → (p < n) × (stands p ps ≡ false) × (misnamed n ps ≡ false)
@@ -48,12 +56,6 @@ named-first n p ps = go (leb n p) (stands p ps) (misnamed n ps) refl
 -- ---- the count comes first
 
 module _ (n : ℕ) (ps : List ℕ) where
-  pub too_many : 3 < length ps → wrong_places n ps ≡ true
-  too_many h = rw (lt-ltb 3 (length ps) h)
-
-  pub few_places : length ps ≤ 3 → wrong_places n ps ≡ misnamed n ps
-  few_places h = rw (le-ltb 3 (length ps) h)
-
   -- nothing is wrong with them
   pub right-places : wrong_places n ps ≡ false → (length ps ≤ 3) × (misnamed n ps ≡ false)
   right-places = go (ltb 3 (length ps)) refl

@@ -4,37 +4,17 @@
 ghost use Rattle.std.specs.Prelude.{◌≡◌, false, ◌+◌, ◌≤◌, length};
 ghost use Rattle.columns.specs.Mix.{mix};
 ghost use Rattle.word.specs.Word.{as_number, stray_in};
-ghost use Rattle.reach.specs.Places.{stands, misnamed, wrong_places};
+ghost use Rattle.reach.specs.Places.{misnamed, wrong_places};
 ghost use Rattle.reach.specs.BySyndrome.{near_by, reach_by};
 
 use word::Word;
-
-// Whether place p stands in a list.
-fn stands(p: usize, places: &[usize]) -> bool
-    ensures { result ≡ stands p places.now }
-{
-    let mut i = 0;
-    while i < places.len() {
-        if places[i] == p {
-            return true;
-        }
-        i += 1;
-    }
-    false
-}
 
 // Whether a place of a list is at n or above, or stands again behind it.
 fn misnamed(n: usize, places: &[usize]) -> bool
     ensures { result ≡ misnamed n places.now }
 {
-    let mut i = 0;
-    while i < places.len() {
-        let p = places[i];
-        i += 1;
-        if p >= n {
-            return true;
-        }
-        if stands(p, &places[i..]) {
+    for (i, p) in places.iter().enumerate() {
+        if *p >= n || places[i + 1..].contains(p) {
             return true;
         }
     }
@@ -45,53 +25,43 @@ fn misnamed(n: usize, places: &[usize]) -> bool
 pub fn wrong_places(n: usize, bad: &[usize]) -> bool
     ensures { result ≡ wrong_places n bad.now }
 {
-    if bad.len() > 3 {
-        return true;
-    }
-    misnamed(n, bad)
-}
-
-// A proper word, where one is within reach.
-#[derive(Clone, Copy)]
-pub enum Reached {
-    Nothing,
-    Proper(Word),
+    bad.len() > 3 || misnamed(n, bad)
 }
 
 // The word itself where its syndrome is 0; with a flip to spare, the word with that place flipped whose column the syndrome is.
-fn near(columns: &[u16], k: usize, flips: usize, word: Word) -> Reached
+#[tactic(auto, unfolding(crate::specs::BySyndrome::near_by))]
+fn near(columns: &[u16], k: usize, flips: usize, word: Word) -> Option<Word>
     requires k_in_bounds { (k ≤ length columns.now) × (length columns.now ≤ k + 16) × (k ≤ 128) }
     requires word_value { stray_in (length columns.now) k word ≡ false }
     ensures { result ≡ near_by columns.now k flips (mix columns.now (as_number k word)) word }
 {
-    let s = word::syndrome_in(columns, k, word);
+    let s = word.syndrome_in(columns, k);
     if s == 0 {
-        return Reached::Proper(word);
+        return Some(word);
     }
     if flips == 0 {
-        return Reached::Nothing;
+        return None;
     }
     let p = columns::place_in(columns, s);
     if p < columns.len() {
-        return Reached::Proper(word::flipped_in(k, p, word));
+        return Some(word.flipped_in(k, p));
     }
-    Reached::Nothing
+    None
 }
 
 // The first found with the first bad place as read, else with it turned.
-pub fn reach(columns: &[u16], k: usize, flips: usize, word: Word, bad: &[usize]) -> Reached
+#[tactic(auto, unfolding(crate::specs::BySyndrome::reach_by))]
+pub fn reach(columns: &[u16], k: usize, flips: usize, word: Word, bad: &[usize]) -> Option<Word>
     requires k_in_bounds { (k ≤ length columns.now) × (length columns.now ≤ k + 16) × (k ≤ 128) }
     requires word_value { stray_in (length columns.now) k word ≡ false }
     requires bad_value { misnamed (length columns.now) bad.now ≡ false }
     ensures { result ≡ reach_by columns.now k flips word bad.now }
 {
-    if bad.len() == 0 {
+    let [p, rest @ ..] = bad else {
         return near(columns, k, flips, word);
-    }
-    let p = bad[0];
-    let kept = reach(columns, k, flips, word, &bad[1..]);
-    let Reached::Nothing = kept else {
-        return kept;
     };
-    reach(columns, k, flips, word::flipped_in(k, p, word), &bad[1..])
+    if let Some(found) = reach(columns, k, flips, word, rest) {
+        return Some(found);
+    }
+    reach(columns, k, flips, word.flipped_in(k, *p), rest)
 }

@@ -1,11 +1,9 @@
 -- Reading one word under an opened code: the code's refusal, 7 for a stray bit, or the verdict, its place, the syndrome and the word
 -- handed back. Assumes nothing.
-use Rattle.std.specs.Prelude.{ℕ}
+use Rattle.std.specs.Prelude.{ℕ, Result, Ok, Err}
 use Rattle.code.specs.declared.Opened.{Opened}
 use Rattle.code.specs.declared.Refusal.{Refusal}
-use Rattle.code.specs.declared.Standing.{Standing}
-use Rattle.code.specs.declared.Standing.TheVariants as standing
-use Rattle.code.specs.Opened.{only, columns_of}
+use Rattle.code.specs.Opened.{Standing, only, columns_of}
 use Rattle.word.specs.declared.Word.{Word}
 use Rattle.verdict.specs.declared.Verdict.{Verdict}
 use Rattle.verdict.specs.declared.Verdict.TheVariants.{Clean, Data, Check, Even, Odd, Stray}
@@ -54,11 +52,16 @@ reading_by Even s k w = given_reading Even s k w
 reading_by Odd s k w = given_reading Odd s k w
 reading_by Stray s k w = refused_reading (only 7)
 
+-- an answer, or the refusal told as one
+abbrev pub answered : Result Reading Refusal → Reading
+answered (Ok a) = a
+answered (Err f) = refused_reading f
+
 -- how the code stands decides first
 abbrev pub reading_as : Standing → Opened → Word → Reading
-reading_as standing.Accepted o w =
+reading_as (Ok u) o w =
     reading_by (read_in o.rows (columns_of o) o.k w) (syndrome_in (columns_of o) o.k w) o.k w
-reading_as (standing.Refused f) o w = refused_reading f
+reading_as (Err f) o w = refused_reading f
 
 abbrev pub reading_of : Opened → Word → Reading
 reading_of o w = reading_as o.standing o w

@@ -4,11 +4,11 @@
 ghost use Rattle.std.specs.Prelude.{◌≡◌, ◌≤◌};
 ghost use Rattle.code.specs.Opened.{Laid};
 ghost use Rattle.verdict.specs.Places.{NamesPlace};
-ghost use Rattle.reading.specs.Reading.{mended_by, refused_reading, reading_by, reading_of};
+ghost use Rattle.reading.specs.Reading.{mended_by, refused_reading, answered, reading_by, reading_of};
 
-use code::{Opened, Refusal, Standing};
-use verdict::Verdict;
-use word::Word;
+use code::{Denial, Opened, Refusal};
+use verdict::{Finding, Verdict};
+use word::{Sight, Word};
 
 // The word handed back: verdicts 1 and 2 flip the place that they name.
 fn mended(verdict: Verdict, k: usize, word: Word) -> Word
@@ -17,18 +17,15 @@ fn mended(verdict: Verdict, k: usize, word: Word) -> Word
     ensures { result ≡ mended_by verdict k word }
 {
     match verdict {
-        Verdict::Data(p) => word::flipped_in(k, p, word),
-        Verdict::Check(p) => word::flipped_in(k, p, word),
-        Verdict::Clean => word,
-        Verdict::Even => word,
-        Verdict::Odd => word,
-        Verdict::Stray => word,
+        Verdict::Data(p) | Verdict::Check(p) => word.flipped_in(k, p),
+        _ => word,
     }
 }
 
 // The answer to a reading: verdict, place, syndrome and the word handed back, all 0 where it is refused.
+// It is flat, with `number` and `told` of its own, and not a Result: C is handed it so (`desk_wide_read`).
 #[repr(C)]
-#[derive(Clone, Copy)]
+#[derive(Clone, Copy, Default)]
 pub struct Reading {
     pub number: usize,
     pub told: usize,
@@ -38,41 +35,47 @@ pub struct Reading {
     pub word: Word,
 }
 
-fn refused_reading(refusal: Refusal) -> Reading
-    ensures { result ≡ refused_reading refusal }
-{
-    Reading {
-        number: refusal.number,
-        told: refusal.told,
-        verdict: 0,
-        place: 0,
-        syndrome: 0,
-        word: Word {
-            low: 0,
-            high: 0,
-            check: 0,
-        },
+impl From<Refusal> for Reading {
+    ghost from_gives = { λ f a. a ≡ refused_reading f };
+
+    fn from(refusal: Refusal) -> Reading {
+        Reading {
+            number: refusal.number,
+            told: refusal.told,
+            ..Reading::default()
+        }
     }
 }
 
-fn reading_by(verdict: Verdict, syndrome: u16, k: usize, word: Word) -> Reading
+// The answer to a look at a word: 7 for a stray word, else what its verdict gives.
+fn reading_by(sight: Sight, k: usize, word: Word) -> Result<Reading, Refusal>
     requires k_bound { k ≤ 128 }
-    requires names_place { NamesPlace k verdict }
-    ensures { result ≡ reading_by verdict syndrome k word }
+    requires names_place { NamesPlace k sight.verdict }
+    ensures { answered result ≡ reading_by sight.verdict sight.syndrome k word }
 {
-    if let Verdict::Stray = verdict {
-        return refused_reading(Refusal { number: 7, told: 0 });
+    if let Verdict::Stray = sight.verdict {
+        return Err(Denial::Stray.into());
     }
-    let finding = verdict::finding_of(verdict);
-    let handed = mended(verdict, k, word);
-    Reading {
+    let finding = Finding::from(sight.verdict);
+    Ok(Reading {
         number: 0,
         told: 0,
         verdict: finding.verdict,
         place: finding.place,
-        syndrome,
-        word: handed,
-    }
+        syndrome: sight.syndrome,
+        word: mended(sight.verdict, k, word),
+    })
+}
+
+// The reading of a word under an opened code, or the refusal of either.
+// `Laid` stays a clause, here and in each question: as an invariant of Opened its type would ask more of callers than it does.
+fn read_under(opened: &Opened, word: Word) -> Result<Reading, Refusal>
+    requires { Laid opened.now }
+    ensures { answered result ≡ reading_of opened.now word }
+{
+    opened.standing?;
+    let sight = word.read_in(&opened.columns[..opened.n], opened.k, opened.rows);
+    reading_by(sight, opened.k, word)
 }
 
 // The reading of a word under an opened code.
@@ -80,14 +83,5 @@ pub fn read(opened: Opened, word: Word) -> Reading
     requires { Laid opened }
     ensures { result ≡ reading_of opened word }
 {
-    let standing = opened.standing;
-    if let Standing::Refused(refusal) = standing {
-        return refused_reading(refusal);
-    }
-    let k = opened.k;
-    let n = opened.n;
-    let columns = opened.columns;
-    let sight = word::read_in(&columns[..n], k, opened.rows, word);
-    let verdict = sight.verdict;
-    reading_by(verdict, sight.syndrome, k, word)
+    read_under(&opened, word).unwrap_or_else(Reading::from)
 }

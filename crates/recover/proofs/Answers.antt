@@ -4,9 +4,9 @@ use mathlib.Core.Bool.{true, false}
 use mathlib.Core.List.{List}
 use Prim.Native.Nat.{ℕ}
 use lib.ListN.{length}
+use Rattle.std.proofs.Common.{Ok, Err}
 use Rattle.code.specs.declared.Opened.{Opened}
 use Rattle.code.specs.declared.Refusal.{Refusal}
-use Rattle.code.specs.declared.Standing.TheVariants as standing
 use Rattle.code.specs.Opened.{only, columns_of}
 use Rattle.word.specs.declared.Word.{Word}
 use Rattle.word.specs.Word.{as_number, stray_in}
@@ -29,8 +29,8 @@ module _ (rows : ℕ) (cs : List ℕ) (k : ℕ) (w : Word) (bad : List ℕ) wher
     in_reach e = rw (whole, e)
 
 module _ (o : Opened) (w : Word) (bad : List ℕ) where
-  pub answer_refused : (f : Refusal) → o.standing ≡ standing.Refused f → recover_of o w bad ≡ refused_recovery f
+  pub answer_refused : (f : Refusal) → o.standing ≡ Err f → recover_of o w bad ≡ refused_recovery f
   answer_refused f e = ap (λ s. recover_as s o w bad) e
 
-  pub answer_accepted : o.standing ≡ standing.Accepted → recover_of o w bad ≡ recover_in o.rows (columns_of o) o.k w bad
+  pub answer_accepted : o.standing ≡ Ok tt → recover_of o w bad ≡ recover_in o.rows (columns_of o) o.k w bad
   answer_accepted e = ap (λ s. recover_as s o w bad) e

@@ -4,6 +4,8 @@ use mathlib.Core.Bool.{Bool, true, false, cond}
 use mathlib.Core.List.{List, [], ◌∷◌, ◌++◌, map, append_assoc, append-nil}
 use Prim.Native.Nat.{ℕ, zero, suc, ◌^◌, ◌≤◌, ◌<◌}
 use native.Mathlib.Omega.{arith}
+use Rattle.std.proofs.Common.{Some, None}
+use Rattle.std.specs.Option.{option_or}
 use lib.Dec.{eqb, ltb}
 use lib.ListN.{length}
 use Rattle.parity.specs.Odd.{odd_in}
@@ -18,13 +20,12 @@ use Rattle.mending.proofs.Strays.{number_fits}
 use Rattle.listing.specs.Sets.{flip_all}
 use Rattle.listing.specs.BySyndrome.{by_syndrome}
 use Rattle.explain.proofs.BySyndrome.{by_syndrome_lem}
-use Rattle.reach.specs.declared.Reached.TheVariants.{Nothing, Proper}
 use Rattle.reach.specs.Places.{misnamed}
-use Rattle.reach.specs.BySyndrome.{near_by, unless_reached, reach_by}
+use Rattle.reach.specs.BySyndrome.{near_by, reach_by}
 use Rattle.recover.specs.Recover.{turnings, proper_near, proper_among, first_of}
 use Rattle.reach.proofs.Places.{named-first}
 
-first-append : (k : ℕ) (a b : List ℕ) → first_of k (a ++ b) ≡ unless_reached (first_of k a) (first_of k b)
+first-append : (k : ℕ) (a b : List ℕ) → first_of k (a ++ b) ≡ option_or (first_of k a) (first_of k b)
 first-append k [] b = refl
 first-append k (u ∷ a) b = refl
 
@@ -42,16 +43,16 @@ near_list : (cs : List ℕ) (k flips s w : ℕ) → flips ≤ 1
 unfolding near_by by_syndrome flip_all
 near_list cs k zero s w h = go (eqb s 0)
   where
-    go : (z : Bool) → cond z (Proper (in_parts k w)) Nothing ≡ first_of k (map (flip_all w) (cond z ([] ∷ []) []))
+    go : (z : Bool) → cond z (Some (in_parts k w)) None ≡ first_of k (map (flip_all w) (cond z ([] ∷ []) []))
     go true = refl
     go false = refl
 near_list cs k (suc zero) s w h = go (eqb s 0) (ltb (place_in cs s) (length cs))
   where
     go : (z p : Bool)
-        → cond z (Proper (in_parts k w)) (cond p (Proper (flipped_in k (place_in cs s) (in_parts k w))) Nothing)
+        → cond z (Some (in_parts k w)) (cond p (Some (flipped_in k (place_in cs s) (in_parts k w))) None)
         ≡ first_of k (map (flip_all w) (cond z ([] ∷ []) (cond p ((place_in cs s ∷ []) ∷ []) [])))
     go true p = refl
-    go false true = ap Proper (flipped_parts k (place_in cs s) w)
+    go false true = ap Some (flipped_parts k (place_in cs s) w)
     go false false = refl
 near_list cs k (suc (suc flips)) s w h = absurd (omega arith)
 
@@ -66,7 +67,7 @@ module _ (rows : ℕ) {cs : List ℕ} {k r : ℕ} (sound : Sound (odd_in rows) c
       ∙ ap (first_of k) (sym (append-nil (proper_near rows cs k flips w)))
   by_syndromes (p ∷ ps) w fits named =
       let x = named-first (length cs) p ps named in
-      ap₂ unless_reached (by_syndromes ps w fits x.2)
+      ap₂ option_or (by_syndromes ps w fits x.2)
       (ap (λ (v : Word). reach_by cs k flips v ps) (flipped_parts k p w)
       ∙ by_syndromes ps (flipped w p) (flip_lt (length cs) w p fits x.0) x.2)
       ∙ sym (first-append k (proper_among rows cs k flips (turnings w ps)) (proper_among rows cs k flips (turnings (flipped w p) ps)))

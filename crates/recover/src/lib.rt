@@ -3,49 +3,56 @@
 
 ghost use Rattle.std.specs.Prelude.{◌≡◌};
 ghost use Rattle.code.specs.Opened.{Laid, SoundOpened};
-ghost use Rattle.recover.specs.Recover.{refused_recovery, recovered_by, recover_of};
+ghost use Rattle.recover.specs.Recover.{refused_recovery, answered, recover_of};
 
-use code::{Opened, Refusal, Standing};
-use reach::Reached;
+use code::{Denial, Opened, Refusal};
 use word::Word;
 
-// The answer: the code word, 0 where it is refused.
+// The answer: the code word, 0 where it is refused. It is flat and no Result: C is handed it so (`desk_wide_recover`).
 #[repr(C)]
-#[derive(Clone, Copy)]
+#[derive(Clone, Copy, Default)]
 pub struct Recovery {
     pub number: usize,
     pub told: usize,
     pub word: Word,
 }
 
-fn refused(refusal: Refusal) -> Recovery
-    ensures { result ≡ refused_recovery refusal }
-{
-    Recovery {
-        number: refusal.number,
-        told: refusal.told,
-        word: Word {
-            low: 0,
-            high: 0,
-            check: 0,
-        },
+impl From<Refusal> for Recovery {
+    ghost from_gives = { λ f a. a ≡ refused_recovery f };
+
+    fn from(refusal: Refusal) -> Recovery {
+        Recovery {
+            number: refusal.number,
+            told: refusal.told,
+            ..Recovery::default()
+        }
     }
 }
 
-fn recovered_by(reached: Reached) -> Recovery
-    ensures { result ≡ recovered_by reached }
+// The code word that a word as read under an opened code was, where some of its places are bad, or what is refused.
+#[tactic(auto, unfolding(crate::specs::Recover::recover_in))]
+fn recover_under(opened: &Opened, word: Word, bad: &[usize]) -> Result<Recovery, Refusal>
+    requires laid { Laid opened.now }
+    requires sound_opened { SoundOpened opened.now }
+    ensures { answered result ≡ recover_of opened.now word bad.now }
 {
-    match reached {
-        Reached::Nothing => refused(Refusal {
-            number: 23,
-            told: 0,
-        }),
-        Reached::Proper(word) => Recovery {
-            number: 0,
-            told: 0,
-            word,
-        },
+    opened.standing?;
+    if word.stray_in(opened.n, opened.k) {
+        return Err(Denial::Stray.into());
     }
+    if reach::wrong_places(opened.n, bad) {
+        return Err(Denial::WrongPlaces.into());
+    }
+    let flips = (3 - bad.len()) / 2;
+    let columns = &opened.columns[..opened.n];
+    let Some(word) = reach::reach(columns, opened.k, flips, word, bad) else {
+        return Err(Denial::OutOfReach.into());
+    };
+    Ok(Recovery {
+        number: 0,
+        told: 0,
+        word,
+    })
 }
 
 // The code word that a word as read under an opened code was, where some of its places are bad.
@@ -54,22 +61,5 @@ pub fn recover(opened: Opened, word: Word, bad: &[usize]) -> Recovery
     requires sound_opened { SoundOpened opened }
     ensures { result ≡ recover_of opened word bad.now }
 {
-    let standing = opened.standing;
-    if let Standing::Refused(refusal) = standing {
-        return refused(refusal);
-    }
-    let k = opened.k;
-    let n = opened.n;
-    if word::stray_in(n, k, word) {
-        return refused(Refusal { number: 7, told: 0 });
-    }
-    if reach::wrong_places(n, bad) {
-        return refused(Refusal {
-            number: 22,
-            told: 0,
-        });
-    }
-    let columns = opened.columns;
-    let flips = (3 - bad.len()) / 2;
-    recovered_by(reach::reach(&columns[..n], k, flips, word, bad))
+    recover_under(&opened, word, bad).unwrap_or_else(Recovery::from)
 }

@@ -13,12 +13,12 @@ use Rattle.columns.specs.Mix.{mix, place_in}
 use Rattle.columns.specs.Sound.{Sound}
 use Rattle.verdict.specs.declared.Verdict.{Verdict}
 use Rattle.verdict.specs.declared.Verdict.TheVariants.{Clean, Data, Check, Even, Odd, Stray}
+use Rattle.word.specs.declared.Word.{Word}
 use Rattle.word.specs.Word.{in_parts, flipped_in}
 use Rattle.verdict.specs.Verdicts.{verdict_on}
 use Rattle.mending.proofs.Parts.{number_of_parts, flipped_parts}
 use Rattle.mending.proofs.Reading.{mended_number}
-use Rattle.reach.specs.declared.Reached.{Reached}
-use Rattle.reach.specs.declared.Reached.TheVariants.{Nothing, Proper}
+use Rattle.std.proofs.Common.{Option, Some, None}
 use Rattle.reach.specs.Places.{stands, misnamed, wrong_places}
 use Rattle.reach.specs.BySyndrome.{near_by, reach_by}
 use Rattle.recover.specs.Recover.{flips_beside, proper_words, first_of}
@@ -28,13 +28,13 @@ use Rattle.recovered.proofs.Outside.{differs_same}
 use Rattle.recovered.proofs.Exactly.{within-found, found_within, none_found}
 
 -- what reading hands back, where it is no flag
-abbrev pub read_back : Verdict → ℕ → ℕ → Reached
-read_back Clean k w = Proper (in_parts k w)
-read_back (Data p) k w = Proper (in_parts k (mended_number (Data p) w))
-read_back (Check p) k w = Proper (in_parts k (mended_number (Check p) w))
-read_back Even k w = Nothing
-read_back Odd k w = Nothing
-read_back Stray k w = Nothing
+abbrev pub read_back : Verdict → ℕ → ℕ → Option Word
+read_back Clean k w = Some (in_parts k w)
+read_back (Data p) k w = Some (in_parts k (mended_number (Data p) w))
+read_back (Check p) k w = Some (in_parts k (mended_number (Check p) w))
+read_back Even k w = None
+read_back Odd k w = None
+read_back Stray k w = None
 
 near_read : (odd : ℕ → ℕ) (cs : List ℕ) (k s w : ℕ) → k ≤ length cs
     → near_by cs k 1 s (in_parts k w) ≡ read_back (verdict_on odd cs k s) k w
@@ -43,11 +43,11 @@ near_read odd cs k s w inside =
     go (eqb s 0) (ltb (place_in cs s) k) (ltb (place_in cs s) (length cs)) (eqb (odd s) 0)
     (λ h. lt-ltb (place_in cs s) (length cs) (omega (arith, ltb-true (place_in cs s) k h)))
   where
-    flip : Proper (flipped_in k (place_in cs s) (in_parts k w)) ≡ Proper (in_parts k (mended_number (Data (place_in cs s)) w))
-    flip = ap Proper (flipped_parts k (place_in cs s) w)
+    flip : Some (flipped_in k (place_in cs s) (in_parts k w)) ≡ Some (in_parts k (mended_number (Data (place_in cs s)) w))
+    flip = ap Some (flipped_parts k (place_in cs s) w)
 
     go : (z d c e : Bool) → (d ≡ true → c ≡ true)
-        → cond z (Proper (in_parts k w)) (cond c (Proper (flipped_in k (place_in cs s) (in_parts k w))) Nothing)
+        → cond z (Some (in_parts k w)) (cond c (Some (flipped_in k (place_in cs s) (in_parts k w))) None)
         ≡ read_back (cond z Clean (cond d (Data (place_in cs s)) (cond c (Check (place_in cs s)) (cond e Even Odd)))) k w
     go true d c e h = refl
     go false true true e h = flip
@@ -83,9 +83,9 @@ module _ (rows : ℕ) {cs : List ℕ} {k r : ℕ} (sound : Sound (odd_in rows) c
     pub any_order : first_of k (proper_words rows cs k w bad) ≡ first_of k (proper_words rows cs k w other)
     any_order = go (first_of k (proper_words rows cs k w bad)) refl
       where
-        go : (x : Reached) → first_of k (proper_words rows cs k w bad) ≡ x → x ≡ first_of k (proper_words rows cs k w other)
-        go Nothing e =
+        go : (x : Option Word) → first_of k (proper_words rows cs k w bad) ≡ x → x ≡ first_of k (proper_words rows cs k w other)
+        go None e =
             sym ((none_found rows sound w other fits right').0 (λ u a. (none_found rows sound w bad fits right).1 e u (within-back u a)))
-        go (Proper v) e =
+        go (Some v) e =
             let i = found_within rows sound w bad fits right v e in
-            ap Proper i.2 ∙ sym (within-found rows sound w other fits right' i.0 (within_same i.0 i.1))
+            ap Some i.2 ∙ sym (within-found rows sound w other fits right' i.0 (within_same i.0 i.1))

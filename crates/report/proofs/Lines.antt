@@ -3,8 +3,8 @@ use mathlib.Core.Path.{◌≡◌, sym, ap, ap₂, ◌∙◌}
 use mathlib.Core.List.{List, ◌++◌}
 use Prim.Native.Nat.{ℕ, zero, suc, ◌+◌, ◌*◌, ◌/◌, ◌^◌, ◌≤◌, ◌<◌}
 use native.Mathlib.Omega.{arith}
-use lib.ListN.{length, get_or, take, drop, length-append, length-take}
-use lib.Seq.{drop_at}
+use lib.ListN.{length, get_or, take, drop, length-append, length-take, length-drop}
+use lib.Seq.{drop_at, take_at, drop-drop}
 use Rattle.record.specs.Bytes.{number_of, byte_span, AllBytes}
 use Rattle.record.specs.Layout.{stamp_size, number_size, syndrome_size, data_size, entry_size}
 use Rattle.record.specs.Run.{record_at, gather, over}
@@ -79,12 +79,21 @@ lines_short journal h (suc k) =
       line_short (record_at (entry_size data_size) journal k) (bytes-part (k * (entry_size data_size)) (entry_size data_size) journal h),
     )
 
+-- the next entry of what is left of a journal behind k of them, and what is left behind that
+pub next_entry : (journal entry after : List ℕ) (k size : ℕ) → 0 < size → drop (k * size) journal ≡ entry ++ after → length entry ≡ size
+    → (entry ≡ record_at size journal k) × (after ≡ drop ((k + 1) * size) journal) × ((k + 1) * size ≤ length journal)
+next_entry journal entry after k size some e long = (
+  sym (ap (take size) e ∙ take_at entry after size long),
+  sym (drop_at entry after size long) ∙ ap (drop size) (sym e) ∙ drop-drop size (k * size) journal ∙ ap (λ n. drop n journal) (omega arith),
+  omega (arith, ap length e, length-drop (k * size) journal, length-append entry after, long),
+)
+
 -- one line more
-pub lines_step : (journal first out later : List ℕ) (i at end n : ℕ) → n ≡ (entry_size data_size)
+pub lines_step : (journal first out later entry : List ℕ) (i at end : ℕ) → entry ≡ record_at (entry_size data_size) journal i
     → out ≡ over (lines_to journal i) first → at ≡ length (lines_to journal i)
-    → Puts at (line_of (take n (drop (i * (entry_size data_size)) journal))) out end later
+    → Puts at (line_of entry) out end later
     → (later ≡ over (lines_to journal (i + 1)) first) × (end ≡ length (lines_to journal (i + 1)))
-lines_step journal first out later i at end n m e l p =
+lines_step journal first out later entry i at end m e l p =
     let line = line_of (record_at (entry_size data_size) journal i) in
     let q : Puts at line out end later = rw m at p in
     rw (gather-step (entry_size data_size) (λ j. line_of) journal i) (

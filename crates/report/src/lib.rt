@@ -5,7 +5,7 @@ ghost use Rattle.std.specs.Prelude.{◌≡◌, ◌+◌, ◌*◌, ◌/◌, ◌≤
 ghost use Rattle.record.specs.Layout.{data_size, entry_size};
 ghost use Rattle.record.specs.Run.{over};
 ghost use Rattle.report.specs.Text.{decimal_of, filled, holes_in, line_of, journal_text, line_size, tally_text, refused_text, written, Held};
-ghost use Rattle.report.specs.Totals.{no_totals, added_to, total_limit, Within};
+ghost use Rattle.report.specs.Totals.{added_to, total_limit, Within};
 
 use record::{ENTRY, HEAD, PLACE, STAMP, SYNDROME, Tally, VERDICT};
 
@@ -19,24 +19,23 @@ pub const REFUSAL: usize = 29;
 // Where a number goes in a text.
 const HOLE: u8 = b'#';
 
-// ---- each writes its text from the place `at` on, and answers the place after it
+// ---- no heap: each writes its text into a lent buffer, from the place `at` on, and answers the place after it
 
-// The digits before the last, then the last.
+// A number in decimal.
+#[tactic(auto, using(crate::proofs::Decimal::decimal_is), unfolding(crate::specs::Text::written))]
 fn put_decimal(out: &mut [u8], at: usize, n: usize) -> usize
     requires { at + length (decimal_of n) ≤ length out.old }
     ensures value { result ≡ at + length (decimal_of n) }
     ensures out_after { out.new ≡ written at (decimal_of n) out.old }
 {
-    if n < 10 {
-        out[at] = b'0' + n as u8;
-        return at + 1;
-    }
-    let last = put_decimal(out, at, n / 10);
-    out[last] = b'0' + (n % 10) as u8;
-    last + 1
+    let mut buffer = itoa::Buffer::new();
+    let digits = buffer.format(n).as_bytes();
+    let end = at + digits.len();
+    out[at..end].copy_from_slice(digits);
+    end
 }
 
-// A text, with the numbers in the places of its holes.
+// A text, with the numbers in the places of its holes. By write!, a failure would have to be ruled out for each text, on top of its room.
 fn put_filled(out: &mut [u8], mut at: usize, text: &[u8], numbers: &[usize]) -> usize
     requires text_value { holes_in text.now ≡ length numbers.now }
     requires numbers_in_bounds { at + length (filled text.now numbers.now) ≤ length out.old }
@@ -44,15 +43,12 @@ fn put_filled(out: &mut [u8], mut at: usize, text: &[u8], numbers: &[usize]) -> 
     ensures out_after { out.new ≡ written at (filled text.now numbers.now) out.old }
 {
     let mut k = 0;
-    let mut i = 0;
-    while i < text.len() {
-        let c = text[i];
-        i += 1;
-        if c == HOLE {
+    for c in text {
+        if *c == HOLE {
             at = put_decimal(out, at, numbers[k]);
             k += 1;
         } else {
-            out[at] = c;
+            out[at] = *c;
             at += 1;
         }
     }
@@ -80,20 +76,15 @@ pub fn journal_text(journal: &[u8], out: &mut [u8]) -> usize
     ensures out_after { out.new ≡ over (journal_text journal.now) out.old }
     ensures held { Held result out.new }
 {
-    let n = journal.len() / ENTRY;
     let mut at = 0;
-    let mut entry = 0;
-    while entry < n {
-        let from = entry * ENTRY;
-        let to = from + ENTRY;
-        at = put_entry_line(out, at, &journal[from..to]);
-        entry += 1;
+    for entry in journal.chunks_exact(ENTRY) {
+        at = put_entry_line(out, at, entry);
     }
     at
 }
 
 // The counts of several runs, added up.
-#[derive(Clone, Copy)]
+#[derive(Clone, Copy, Default)]
 pub struct Totals {
     pub clean: usize,
     pub data: usize,
@@ -103,40 +94,19 @@ pub struct Totals {
     pub stray: usize,
 }
 
-// A run's count is added to a total.
-fn plus(total: usize, count: u16) -> usize
-    requires { total ≤ total_limit }
-    ensures { result ≡ total + count }
-{
-    total + count as usize
-}
-
 impl Totals {
-    pub fn new() -> Self
-        ensures { result ≡ no_totals }
-    {
-        Self {
-            clean: 0,
-            data: 0,
-            check: 0,
-            even: 0,
-            odd: 0,
-            stray: 0,
-        }
-    }
-
     // A run's tally is added.
     pub fn added(self, run: Tally) -> Self
         requires { Within total_limit self }
         ensures { result ≡ added_to self run }
     {
         Self {
-            clean: plus(self.clean, run.clean),
-            data: plus(self.data, run.data),
-            check: plus(self.check, run.check),
-            even: plus(self.even, run.even),
-            odd: plus(self.odd, run.odd),
-            stray: plus(self.stray, run.stray),
+            clean: self.clean + usize::from(run.clean),
+            data: self.data + usize::from(run.data),
+            check: self.check + usize::from(run.check),
+            even: self.even + usize::from(run.even),
+            odd: self.odd + usize::from(run.odd),
+            stray: self.stray + usize::from(run.stray),
         }
     }
 }

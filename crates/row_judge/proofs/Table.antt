@@ -14,10 +14,10 @@ use Rattle.columns.specs.Mix.{column, place_in}
 use Rattle.columns.proofs.Places.{place_hit, place_first}
 use Rattle.judge.specs.Rule.{Sized, Limits, Empty, LeftAt}
 use Rattle.faults.specs.declared.Fault.TheVariants.{Wide, Again, NotLower, NotUpper, Even, Full}
-use Rattle.row_judge.specs.declared.JudgedRows.{JudgedRows}
-use Rattle.row_judge.specs.declared.JudgedRows.TheVariants.{Accepted, NoData, NoChecks, TooWide, NoRows, Repeated, NotTriangular, EvenColumn, Leftover}
+use Rattle.std.specs.Prelude.{Ok, Err}
+use Rattle.row_judge.specs.declared.RowFlaw.TheVariants.{NoData, NoChecks, TooWide, NoRows, Repeated, NotTriangular, EvenColumn, Leftover}
 use Rattle.faults.specs.Faults.{off_diagonal, first_past, first_in, some_in}
-use Rattle.row_judge.specs.Judge.{no_set, not_triangular, judge_rest, judge_reasons, judge_rows_in}
+use Rattle.row_judge.specs.Judge.{JudgedRows, no_set, not_triangular, judge_rest, judge_reasons, judge_rows_in}
 use Rattle.row_judge.specs.Rule.{Narrow, SetOfRows, Differ, Lower, Upper, Triangular, OddWithin, Chosen, KeptRows}
 use Rattle.row_judge.specs.Rule.{FirstWide, NoSetOfRows, ZeroOrAgain, SomeEven, SaysOfRows}
 use Rattle.faults.proofs.Firsts.{first_before, first-at, first_past_lem, first-is, some_at, none_at}
@@ -209,8 +209,9 @@ module _ (most : ℕ) (places : List ℕ) (n r rows : ℕ) where
           → Tells t (¬ (Triangular (drop (n - r) cs))) (Triangular (drop (n - r) cs))
           → Tells e (SomeEven cs rows) (OddWithin cs rows) → Tells l (LeftAt places n (first_past Full places n)) (Empty places n)
           → SaysOfRows most places n r rows
-          (cond a NoData (cond b NoChecks (cond w (TooWide (first_in (Wide r) cs)) (cond s NoRows (cond g Repeated (cond t NotTriangular
-          (cond e EvenColumn (cond l (Leftover (first_past Full places n)) Accepted))))))))
+          (cond a (Err NoData) (cond b (Err NoChecks) (cond w (Err (TooWide (first_in (Wide r) cs)))
+          (cond s (Err NoRows) (cond g (Err Repeated) (cond t (Err NotTriangular)
+          (cond e (Err EvenColumn) (cond l (Err (Leftover (first_past Full places n))) (Ok tt)))))))))
       go true b w s g t e l ta tb tw ts tg tt te tl = ta.yes refl
       go false true w s g t e l ta tb tw ts tg tt te tl = (ta.no refl, tb.yes refl)
       go false false true s g t e l ta tb tw ts tg tt te tl = (limits (ta.no refl) (tb.no refl), tw.yes refl)
@@ -235,7 +236,7 @@ module _ (most : ℕ) (places : List ℕ) (n r rows : ℕ) where
   -- ---- and where a row says so, that is the answer: what is left past each test
 
   past_limits : Limits most (n - r) r
-      → judge_rows_in most places n r rows ≡ cond (some_in (Wide r) cs) (TooWide (first_in (Wide r) cs)) (judge_reasons places n r rows)
+      → judge_rows_in most places n r rows ≡ cond (some_in (Wide r) cs) (Err (TooWide (first_in (Wide r) cs))) (judge_reasons places n r rows)
   unfolding judge_rows_in
   past_limits l = simp (is_false (sized_told most n r) l.sized, is_false (checks-told r) (l.least, l.top))
 
@@ -243,8 +244,8 @@ module _ (most : ℕ) (places : List ℕ) (n r rows : ℕ) where
   past_wide l w = past_limits l ∙ simp (is_false (wide-told cs r) w)
 
   past_set : SetOfRows r rows
-      → judge_reasons places n r rows ≡ cond (some_in Again cs) Repeated
-      (cond (not_triangular (drop (n - r) cs)) NotTriangular (cond (some_in (Even rows) cs) EvenColumn (judge_rest places n)))
+      → judge_reasons places n r rows ≡ cond (some_in Again cs) (Err Repeated)
+      (cond (not_triangular (drop (n - r) cs)) (Err NotTriangular) (cond (some_in (Even rows) cs) (Err EvenColumn) (judge_rest places n)))
   unfolding judge_reasons
   past_set s = simp (is_false (set_told r rows) s)
 
@@ -259,35 +260,35 @@ module _ (most : ℕ) (places : List ℕ) (n r rows : ℕ) where
 
   pub says-rows : (v : JudgedRows) → SaysOfRows most places n r rows v → judge_rows_in most places n r rows ≡ v
   unfolding judge_rows_in judge_reasons
-  says-rows NoData s = simp (is_true (sized_told most n r) s)
-  says-rows NoChecks s = simp (is_false (sized_told most n r) s.0, is_true (checks-told r) s.1)
-  says-rows (TooWide i) s =
+  says-rows (Err NoData) s = simp (is_true (sized_told most n r) s)
+  says-rows (Err NoChecks) s = simp (is_false (sized_told most n r) s.0, is_true (checks-told r) s.1)
+  says-rows (Err (TooWide i)) s =
       let f = s.1 in
       let at : first_in (Wide r) cs ≡ i = first-is (Wide r) cs 0 i (omega arith) f.inside (le-leb (2 ^ r) (column cs i) f.wide)
       (λ j h l. lt-leb (2 ^ r) (column cs j) (f.before j l)) in
-      past_limits s.0 ∙ simp (is_true (wide-told cs r) (subst (FirstWide cs r) (sym at) f)) (ap TooWide at)
-  says-rows NoRows s = past_wide s.0 s.1 ∙ simp (is_true (set_told r rows) s.2)
-  says-rows Repeated s = past_wide s.0 s.1 ∙ past_set s.2 ∙ simp (is_true (again_told cs) s.3)
-  says-rows NotTriangular s =
+      past_limits s.0 ∙ simp (is_true (wide-told cs r) (subst (FirstWide cs r) (sym at) f)) (ap (λ (j : ℕ). Err (TooWide j)) at)
+  says-rows (Err NoRows) s = past_wide s.0 s.1 ∙ simp (is_true (set_told r rows) s.2)
+  says-rows (Err Repeated) s = past_wide s.0 s.1 ∙ past_set s.2 ∙ simp (is_true (again_told cs) s.3)
+  says-rows (Err NotTriangular) s =
       past_wide s.0 s.1 ∙ past_set s.2
       ∙ simp (is_false (again_told cs) s.3, is_true (corner_told (drop (n - r) cs)) s.4)
-  says-rows EvenColumn s =
+  says-rows (Err EvenColumn) s =
       past_wide s.0 s.1 ∙ past_set s.2
       ∙ simp (is_false (again_told cs) s.3, is_false (corner_told (drop (n - r) cs)) s.4, is_true (even_told cs rows) s.5)
-  says-rows (Leftover i) s =
+  says-rows (Err (Leftover i)) s =
       let f = s.2 in
       let at : first_past Full places n ≡ i = first-is Full places n i f.past f.inside
       (ap not (ne_eqb (column places i) 0 f.full)) (λ j h l. ap not (eq-eqb (column places j) 0 (f.before j h l))) in
-      past_rule s.0 s.1 ∙ simp (is_true (rest-told places n) (subst (LeftAt places n) (sym at) f)) (ap Leftover at)
-  says-rows Accepted s = past_rule s.0 s.1 ∙ simp (is_false (rest-told places n) s.2)
+      past_rule s.0 s.1 ∙ simp (is_true (rest-told places n) (subst (LeftAt places n) (sym at) f)) (ap (λ (j : ℕ). Err (Leftover j)) at)
+  says-rows (Ok u) s = past_rule s.0 s.1 ∙ simp (is_false (rest-told places n) s.2)
 
   -- THE TABLE: each answer exactly when its row says so and no earlier one
   pub rows_exactly : (v : JudgedRows) → (judge_rows_in most places n r rows ≡ v) ↔ SaysOfRows most places n r rows v
   rows_exactly v = (λ e. subst (SaysOfRows most places n r rows) e rows_say, says-rows v)
 
   -- THE RULE: accepted exactly when the limits and the rule are kept and the places past n are empty
-  pub rows_rule : (judge_rows_in most places n r rows ≡ Accepted) ↔ KeptRows most places n r rows
+  pub rows_rule : (judge_rows_in most places n r rows ≡ Ok tt) ↔ KeptRows most places n r rows
   rows_rule = (
-    λ e. let s = (rows_exactly Accepted).0 e in record { limits = s.0; rule = s.1; empty = s.2 },
-    λ k. says-rows Accepted (k.limits, k.rule, k.empty),
+    λ e. let s = (rows_exactly (Ok tt)).0 e in record { limits = s.0; rule = s.1; empty = s.2 },
+    λ k. says-rows (Ok tt) (k.limits, k.rule, k.empty),
   )

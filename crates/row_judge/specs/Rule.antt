@@ -1,10 +1,10 @@
 -- The rule of codes with a chosen set of rows, and what each answer of their judge says of a code. Assumes nothing.
-use Rattle.std.specs.Prelude.{◌≡◌, ◌≢◌, ◌⊎◌, List, ℕ, suc, ◌-◌, ◌%◌, ◌^◌, ◌≤◌, ◌<◌, length, take, drop}
+use Rattle.std.specs.Prelude.{◌≡◌, ◌≢◌, ◌⊎◌, List, ℕ, suc, ◌-◌, ◌%◌, ◌^◌, ◌≤◌, ◌<◌, length, take, drop, Ok, Err}
 use Rattle.parity.specs.Odd.{odd_in}
 use Rattle.columns.specs.Mix.{column}
 use Rattle.judge.specs.Rule.{Sized, Limits, Empty, LeftAt}
-use Rattle.row_judge.specs.declared.JudgedRows.{JudgedRows}
-use Rattle.row_judge.specs.declared.JudgedRows.TheVariants.{Accepted, NoData, NoChecks, TooWide, NoRows, Repeated, NotTriangular, EvenColumn, Leftover}
+use Rattle.row_judge.specs.Judge.{JudgedRows}
+use Rattle.row_judge.specs.declared.RowFlaw.TheVariants.{NoData, NoChecks, TooWide, NoRows, Repeated, NotTriangular, EvenColumn, Leftover}
 use Rattle.faults.specs.Faults.{off_diagonal}
 
 -- ---- the rule's parts
@@ -71,14 +71,14 @@ SomeEven cs rows = (i : ℕ) × (i < length cs) × (odd_in rows (column cs i) �
 
 -- what an answer of the judge says of a code: its row of the table holds, and no earlier one
 abbrev pub SaysOfRows : ℕ → List ℕ → ℕ → ℕ → ℕ → JudgedRows → Type 0
-SaysOfRows most places n r rows NoData = (n ≤ r) ⊎ (most < n - r)
-SaysOfRows most places n r rows NoChecks = Sized most (n - r) × ((r < 3) ⊎ (16 < r))
-SaysOfRows most places n r rows (TooWide i) = Limits most (n - r) r × FirstWide (take n places) r i
-SaysOfRows most places n r rows NoRows = Limits most (n - r) r × Narrow (take n places) r × NoSetOfRows r rows
-SaysOfRows most places n r rows Repeated = Limits most (n - r) r × Narrow (take n places) r × SetOfRows r rows × ZeroOrAgain (take n places)
-SaysOfRows most places n r rows NotTriangular = Limits most (n - r) r × Narrow (take n places) r × SetOfRows r rows
+SaysOfRows most places n r rows (Err NoData) = (n ≤ r) ⊎ (most < n - r)
+SaysOfRows most places n r rows (Err NoChecks) = Sized most (n - r) × ((r < 3) ⊎ (16 < r))
+SaysOfRows most places n r rows (Err (TooWide i)) = Limits most (n - r) r × FirstWide (take n places) r i
+SaysOfRows most places n r rows (Err NoRows) = Limits most (n - r) r × Narrow (take n places) r × NoSetOfRows r rows
+SaysOfRows most places n r rows (Err Repeated) = Limits most (n - r) r × Narrow (take n places) r × SetOfRows r rows × ZeroOrAgain (take n places)
+SaysOfRows most places n r rows (Err NotTriangular) = Limits most (n - r) r × Narrow (take n places) r × SetOfRows r rows
     × Differ (take n places) × (¬ (Triangular (drop (n - r) (take n places))))
-SaysOfRows most places n r rows EvenColumn = Limits most (n - r) r × Narrow (take n places) r × SetOfRows r rows
+SaysOfRows most places n r rows (Err EvenColumn) = Limits most (n - r) r × Narrow (take n places) r × SetOfRows r rows
     × Differ (take n places) × Triangular (drop (n - r) (take n places)) × SomeEven (take n places) rows
-SaysOfRows most places n r rows (Leftover i) = Limits most (n - r) r × Chosen (take n places) (n - r) r rows × LeftAt places n i
-SaysOfRows most places n r rows Accepted = Limits most (n - r) r × Chosen (take n places) (n - r) r rows × Empty places n
+SaysOfRows most places n r rows (Err (Leftover i)) = Limits most (n - r) r × Chosen (take n places) (n - r) r rows × LeftAt places n i
+SaysOfRows most places n r rows (Ok u) = Limits most (n - r) r × Chosen (take n places) (n - r) r rows × Empty places n

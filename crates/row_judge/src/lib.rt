@@ -6,10 +6,9 @@ ghost use Rattle.row_judge.specs.Judge.{no_set, not_triangular, judge_reasons, j
 
 use faults::Fault;
 
-// What the judge says, a case for each refusal: 1, 2, 3 with its place, the four reasons of 20, 21 with its place.
-#[derive(Clone, Copy)]
-pub enum JudgedRows {
-    Accepted,
+// What is wrong with such a code, a case for each refusal: 1, 2, 3 with its place, the four reasons of 20, 21 with its place.
+#[derive(Clone, Copy, PartialEq, Eq)]
+pub enum RowFlaw {
     NoData,
     NoChecks,
     TooWide(usize),
@@ -20,15 +19,15 @@ pub enum JudgedRows {
     Leftover(usize),
 }
 
+// What the judge says of one.
+pub type JudgedRows = Result<(), RowFlaw>;
+
 // Check columns with a fault at either corner.
 pub fn not_triangular(checks: &[u16]) -> bool
     requires { length checks.now ≤ 16 }
     ensures { result ≡ not_triangular checks.now }
 {
-    if faults::some(checks, Fault::NotLower) {
-        return faults::some(checks, Fault::NotUpper);
-    }
-    false
+    faults::some(checks, Fault::NotLower) && faults::some(checks, Fault::NotUpper)
 }
 
 // A set of rows that is empty, or names a row at r or above.
@@ -36,57 +35,48 @@ pub fn no_set(rows: u16, r: usize) -> bool
     requires { r ≤ 16 }
     ensures { result ≡ no_set r rows }
 {
-    if rows == 0 {
-        return true;
-    }
-    faults::too_wide(rows, r)
+    rows == 0 || faults::too_wide(rows, r)
 }
 
 // 20, its reasons 1 to 4 over the whole code one after the other; then 21.
+#[tactic(auto, using(crate::proofs::Parts::last_of, faults::proofs::Firsts::is_found, faults::proofs::Firsts::not_found), unfolding(crate::specs::Judge::judge_reasons))]
 fn judge_reasons(places: &[u16], n: usize, r: usize, rows: u16) -> JudgedRows
     requires { (r ≤ 16) × (r ≤ n) × (n ≤ length places.now) }
     ensures { result ≡ judge_reasons places.now n r rows }
 {
     let k = n - r;
     if no_set(rows, r) {
-        return JudgedRows::NoRows;
+        return Err(RowFlaw::NoRows);
     }
     if faults::some(&places[..n], Fault::Again) {
-        return JudgedRows::Repeated;
+        return Err(RowFlaw::Repeated);
     }
     if not_triangular(&places[k..n]) {
-        return JudgedRows::NotTriangular;
+        return Err(RowFlaw::NotTriangular);
     }
     if faults::some(&places[..n], Fault::Even(rows)) {
-        return JudgedRows::EvenColumn;
+        return Err(RowFlaw::EvenColumn);
     }
-    let left = faults::first(places, Fault::Full, n);
-    if left < places.len() {
-        return JudgedRows::Leftover(left);
+    match faults::first(places, Fault::Full, n) {
+        Some(left) => Err(RowFlaw::Leftover(left)),
+        None => Ok(()),
     }
-    JudgedRows::Accepted
 }
 
 // A code whose places are all of a slice, 16 of them beyond its most data bits: 1, 2, then 3 over all n columns, then 20 and 21.
+#[tactic(auto, using(faults::proofs::Firsts::is_found, faults::proofs::Firsts::not_found), unfolding(crate::specs::Judge::judge_rows_in))]
 pub fn judge_in(places: &[u16], n: usize, r: usize, rows: u16) -> JudgedRows
     requires { 16 ≤ length places.now }
     ensures { result ≡ judge_rows_in (length places.now - 16) places.now n r rows }
 {
-    if n <= r {
-        return JudgedRows::NoData;
+    if n <= r || n - r > places.len() - 16 {
+        return Err(RowFlaw::NoData);
     }
-    if n - r > places.len() - 16 {
-        return JudgedRows::NoData;
+    if r < 3 || r > 16 {
+        return Err(RowFlaw::NoChecks);
     }
-    if r < 3 {
-        return JudgedRows::NoChecks;
+    match faults::first(&places[..n], Fault::Wide(r), 0) {
+        Some(wide) => Err(RowFlaw::TooWide(wide)),
+        None => judge_reasons(places, n, r, rows),
     }
-    if r > 16 {
-        return JudgedRows::NoChecks;
-    }
-    let wide = faults::first(&places[..n], Fault::Wide(r), 0);
-    if wide < n {
-        return JudgedRows::TooWide(wide);
-    }
-    judge_reasons(places, n, r, rows)
 }

@@ -5,6 +5,7 @@ use Prim.Native.Nat.{ℕ, ◌+◌, ◌-◌, ◌≤◌}
 use native.Mathlib.Omega.{arith}
 use lib.ListN.{length, take}
 use lib.Seq.{length-take-le}
+use Rattle.std.specs.Prelude.{Ok}
 use Rattle.code.specs.declared.Opened.{Opened}
 use Rattle.code.specs.Opened.{Laid}
 use Rattle.code.proofs.Laid.{laid_by}
@@ -12,6 +13,24 @@ use Rattle.row_judge.specs.Judge.{judge_rows_in}
 use Rattle.rows.specs.Opened.{standing_of_rows, opened_rows_in}
 use Rattle.rows.proofs.Answers.{accepted_of_standing}
 use Rattle.row_judge.proofs.Table.{rows_rule}
+
+-- an accepted code has as many columns as it says, and its check columns are among them
+pub accepted_few : (most : ℕ) (places : List ℕ) (n r rows : ℕ) → length places ≡ most + 16 → Ok tt ≡ judge_rows_in most places n r rows
+    → n ≡ length (take n places)
+accepted_few most places n r rows l e =
+    let s = ((rows_rule most places n r rows).0 (sym e)).limits in
+    let some = s.sized.some in
+    let few = s.sized.few in
+    let top = s.top in
+    sym (length-take-le n places (omega arith))
+
+pub accepted_rows : (most : ℕ) (places : List ℕ) (n r rows : ℕ) → Ok tt ≡ judge_rows_in most places n r rows → (r ≤ n) × (n ≤ most + 16)
+accepted_rows most places n r rows e =
+    let s = ((rows_rule most places n r rows).0 (sym e)).limits in
+    let some = s.sized.some in
+    let few = s.sized.few in
+    let top = s.top in
+    (omega arith, omega arith)
 
 pub laid-rows : (most : ℕ) (places : List ℕ) (n r rows : ℕ) → length places ≡ most + 16 → most ≤ 128
     → Laid (opened_rows_in most places n r rows) × ((opened_rows_in most places n r rows).k ≤ most)

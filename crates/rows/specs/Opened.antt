@@ -1,26 +1,16 @@
 -- A code with a chosen set of rows leads to the hub: it is opened with its own check columns and its own set. Assumes nothing.
-use Rattle.std.specs.Prelude.{List, ℕ, ◌-◌, take}
+use Rattle.std.specs.Prelude.{List, ℕ, ◌-◌, take, Ok, Err}
 use Rattle.code.specs.declared.Opened.{Opened}
-use Rattle.code.specs.declared.Standing.{Standing}
-use Rattle.code.specs.declared.Standing.TheVariants as standing
-use Rattle.code.specs.Opened.{refusal, only, opened_by}
+use Rattle.code.specs.Refusals.{refusal_of_rows}
+use Rattle.code.specs.Opened.{Standing, opened_by}
 use Rattle.rows.specs.declared.RowCode.{RowCode}
 use Rattle.rows.specs.declared.WideRowCode.{WideRowCode}
-use Rattle.row_judge.specs.declared.JudgedRows.{JudgedRows}
-use Rattle.row_judge.specs.declared.JudgedRows.TheVariants.{Accepted, NoData, NoChecks, TooWide, NoRows, Repeated, NotTriangular, EvenColumn, Leftover}
-use Rattle.row_judge.specs.Judge.{judge_rows_in}
+use Rattle.row_judge.specs.Judge.{JudgedRows, judge_rows_in}
 
--- the number and what is told, a row for each answer of the judge: 20 tells its reason, 3 and 21 a place
+-- what the judge's answer comes to
 abbrev pub standing_of_rows : JudgedRows → Standing
-standing_of_rows Accepted = standing.Accepted
-standing_of_rows NoData = standing.Refused (only 1)
-standing_of_rows NoChecks = standing.Refused (only 2)
-standing_of_rows (TooWide i) = standing.Refused (refusal 3 i)
-standing_of_rows NoRows = standing.Refused (refusal 20 1)
-standing_of_rows Repeated = standing.Refused (refusal 20 2)
-standing_of_rows NotTriangular = standing.Refused (refusal 20 3)
-standing_of_rows EvenColumn = standing.Refused (refusal 20 4)
-standing_of_rows (Leftover i) = standing.Refused (refusal 21 i)
+standing_of_rows (Ok u) = Ok tt
+standing_of_rows (Err flaw) = Err (refusal_of_rows flaw)
 
 -- of at most `most` data bits: n columns, the last r of them check columns
 abbrev pub opened_rows_in : ℕ → List ℕ → ℕ → ℕ → ℕ → Opened

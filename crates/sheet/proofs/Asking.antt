@@ -11,7 +11,8 @@ use lib.Ieee.{Float}
 use lib.Ieee.Scale.{finite}
 use Rattle.sheet.specs.declared.Limit.{Limit}
 use Rattle.sheet.specs.declared.Limit.TheVariants.{Ceiling, Band, Open}
-use Rattle.sheet.specs.Sheets.{Asked, zero_figure, countable, figure_stands, limit_stands, stands}
+use Rattle.sheet.specs.declared.Asked.{Asked}
+use Rattle.sheet.specs.Sheets.{zero_figure, countable, figure_stands, limit_stands, stands}
 use Rattle.sheet.specs.Rule.{BadCount, BadFigure, BadLimit, NoSheet, Stands}
 use Rattle.sheet.specs.Rule.{device-count, word_count, mended-above, hours-endless, hours-not-above, bad-limit}
 

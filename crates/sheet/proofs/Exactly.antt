@@ -7,10 +7,13 @@ use native.Mathlib.Omega.{arith}
 use lib.IntN.{pos}
 use lib.Ieee as Ieee
 use lib.Ieee.{Float, fin, binary64, of_bits}
+use Rattle.std.specs.Prelude.{Some, None}
+use Rattle.sheet.specs.declared.Sheet.{Sheet}
 use Rattle.sheet.specs.declared.SheetAnswer.{SheetAnswer}
 use Rattle.sheet.specs.declared.Limit.{Limit}
 use Rattle.sheet.specs.declared.Limit.TheVariants.{Ceiling, Band, Open}
-use Rattle.sheet.specs.Sheets.{Asked, share_of, within, stands, refused_sheet, judged_sheet, sheet_of}
+use Rattle.sheet.specs.declared.Asked.{Asked}
+use Rattle.sheet.specs.Sheets.{share_of, within, stands, refused_sheet, figures, judged_sheet, figures_of, sheet_of}
 use Rattle.sheet.specs.Rule.{NoSheet, Stands, Within}
 use Rattle.sheet.proofs.Asking.{both, stands-says, falls, fallen, stood}
 
@@ -18,6 +21,21 @@ use Rattle.sheet.proofs.Asking.{both, stands-says, falls, fallen, stood}
 pub row : (q : Asked) (t : Bool) → stands q ≡ t → sheet_of q ≡ cond t (judged_sheet q) refused_sheet
 unfolding sheet_of
 row q t h = ap (λ t. cond t (judged_sheet q) refused_sheet) h
+
+-- where there are figures, and where there are none
+pub some_figures : (q : Asked) (sheet : Sheet) → figures_of q ≡ Some sheet → (stands q ≡ true) × (sheet ≡ figures q)
+some_figures q sheet e = go (stands q) e
+  where
+    go : (t : Bool) → cond t (Some (figures q)) None ≡ Some sheet → (t ≡ true) × (sheet ≡ figures q)
+    go true e = (refl, cc)
+    go false e = cc
+
+pub no_figures : (q : Asked) → figures_of q ≡ None → stands q ≡ false
+no_figures q e = go (stands q) e
+  where
+    go : (t : Bool) → cond t (Some (figures q)) None ≡ None → t ≡ false
+    go true e = cc
+    go false e = refl
 
 -- 19 exactly where one of its reasons holds
 pub refused_exactly : (q : Asked) → ((sheet_of q).number ≡ 19) ↔ NoSheet q

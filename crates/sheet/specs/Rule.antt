@@ -4,7 +4,8 @@ use Rattle.std.specs.Float.Ieee as Ieee
 use Rattle.std.specs.Float.Ieee.Scale.{finite}
 use Rattle.sheet.specs.declared.Limit.{Limit}
 use Rattle.sheet.specs.declared.Limit.TheVariants.{Ceiling, Band, Open}
-use Rattle.sheet.specs.Sheets.{Asked, zero_figure, limit_stands}
+use Rattle.sheet.specs.declared.Asked.{Asked}
+use Rattle.sheet.specs.Sheets.{zero_figure, limit_stands}
 
 -- a count of devices or of words that is 0 or over 65,535
 abbrev pub BadCount : ℕ → Type 0

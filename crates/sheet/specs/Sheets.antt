@@ -1,20 +1,15 @@
 -- A sheet for each station: document 02, request 107, and equation 2 of source document 004. Floats are those of lib.Ieee. Assumes nothing.
-use Rattle.std.specs.Prelude.{Bool, true, false, not, ◌&&◌, cond, ℕ, leb, pos}
+use Rattle.std.specs.Prelude.{Bool, true, false, not, ◌&&◌, cond, ℕ, leb, pos, Option, Some, None}
 use lib.Ieee as Ieee
 use lib.Ieee.{Float, binary64}
 use Rattle.std.specs.Float.Ieee.Scale.{finite}
+use Rattle.sheet.specs.declared.Sheet.{Sheet}
 use Rattle.sheet.specs.declared.SheetAnswer.{SheetAnswer}
+use Rattle.sheet.specs.declared.Asked.{Asked}
 use Rattle.sheet.specs.declared.Limit.{Limit}
 use Rattle.sheet.specs.declared.Limit.TheVariants.{Ceiling, Band, Open}
 
--- what is asked: hours per device, the counts of devices, of words and of mended words, and the house limit on the share
-pub record Asked : Type 0 where
-  pub hours : Float
-  pub devices : ℕ
-  pub words : ℕ
-  pub mended : ℕ
-  pub limit : Limit
-
+-- what is asked
 abbrev pub asked : Float → ℕ → ℕ → ℕ → Limit → Asked
 asked hours devices words mended limit =
     record { hours = hours; devices = devices; words = words; mended = mended; limit = limit }
@@ -72,15 +67,17 @@ abbrev pub refused_sheet : SheetAnswer
 refused_sheet =
     record { number = 19; told = 0; yes = false; sheet = record { device = zero_figure; station = zero_figure; share = zero_figure } }
 
+-- the three figures
+abbrev pub figures : Asked → Sheet
+figures q = record { device = q.hours; station = station_hours q.hours q.devices; share = share_of q.mended q.words }
+
 -- number 0, nothing told, the comparison, and the three figures
 abbrev pub judged_sheet : Asked → SheetAnswer
-judged_sheet q =
-    record {
-      number = 0;
-      told = 0;
-      yes = within q.limit (share_of q.mended q.words);
-      sheet = record { device = q.hours; station = station_hours q.hours q.devices; share = share_of q.mended q.words };
-    }
+judged_sheet q = record { number = 0; told = 0; yes = within q.limit (share_of q.mended q.words); sheet = figures q }
+
+-- the figures where all that is asked stands
+abbrev pub figures_of : Asked → Option Sheet
+figures_of q = cond (stands q) (Some (figures q)) None
 
 unfoldable pub sheet_of : Asked → SheetAnswer
 unfolding stands

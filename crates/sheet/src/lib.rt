@@ -22,7 +22,7 @@ pub enum Limit {
     Open,
 }
 
-// The answer: yes exactly when the share is within the limit.
+// The answer: yes exactly when the share is within the limit. The refusal is a number in it, as C has it.
 #[repr(C)]
 #[derive(Clone, Copy)]
 pub struct SheetAnswer {
@@ -36,7 +36,7 @@ pub struct SheetAnswer {
 fn countable(n: usize) -> bool
     ensures { result ≡ specs.countable n }
 {
-    (1 <= n) & (n <= 65535)
+    (1..=65535).contains(&n)
 }
 
 // A NaN or an infinity less itself is a NaN, and any other figure less itself is zero.
@@ -50,7 +50,7 @@ fn finite(x: f64) -> bool
 fn figure_stands(x: f64) -> bool
     ensures { result ≡ specs.figure_stands x }
 {
-    finite(x) & !(x < 0.0)
+    finite(x) && !(x < 0.0)
 }
 
 // A band's ends may be equal, but it is not upside down.
@@ -59,21 +59,9 @@ fn limit_stands(limit: Limit) -> bool
 {
     match limit {
         Limit::Ceiling(high) => figure_stands(high),
-        Limit::Band(low, high) => figure_stands(low) & figure_stands(high) & !(high < low),
+        Limit::Band(low, high) => figure_stands(low) && figure_stands(high) && !(high < low),
         Limit::Open => true,
     }
-}
-
-// What 19 asks of the counts, of the hours and of the limit.
-fn stands(hours: f64, devices: usize, words: usize, mended: usize, limit: Limit) -> bool
-    ensures { result ≡ specs.stands (specs.asked hours devices words mended limit) }
-{
-    countable(devices)
-        & countable(words)
-        & (mended <= words)
-        & finite(hours)
-        & (hours > 0.0)
-        & limit_stands(limit)
 }
 
 // Hours per station: hours per device by the count of devices, rounded once.
@@ -96,12 +84,52 @@ fn within(limit: Limit, share: f64) -> bool
 {
     match limit {
         Limit::Ceiling(high) => share <= high,
-        Limit::Band(low, high) => (low <= share) & (share <= high),
+        Limit::Band(low, high) => low <= share && share <= high,
         Limit::Open => true,
     }
 }
 
+// What is asked: hours per device, the counts of devices, of words and of mended words, and the house limit on the share.
+#[derive(Clone, Copy)]
+pub struct Asked {
+    pub hours: f64,
+    pub devices: usize,
+    pub words: usize,
+    pub mended: usize,
+    pub limit: Limit,
+}
+
+impl Asked {
+    // What 19 asks of the counts, of the hours and of the limit.
+    #[tactic(auto, unfolding(crate::specs::Sheets::stands))]
+    fn stands(self) -> bool
+        ensures { result ≡ specs.stands self }
+    {
+        countable(self.devices)
+            && countable(self.words)
+            && self.mended <= self.words
+            && finite(self.hours)
+            && self.hours > 0.0
+            && limit_stands(self.limit)
+    }
+
+    // The three figures, or none where 19 has something to ask.
+    fn sheet(self) -> Option<Sheet>
+        ensures { result ≡ specs.figures_of self }
+    {
+        if !self.stands() {
+            return None;
+        }
+        Some(Sheet {
+            device: self.hours,
+            station: station_hours(self.hours, self.devices as u16),
+            share: share_of(self.mended as u16, self.words as u16),
+        })
+    }
+}
+
 // The sheet of a station, judged on its share; 19 where it has none.
+// Its parameters stay five, as those of the exported functions that ask it; Asked holds them from here on.
 pub fn sheet_of(
     hours: f64,
     devices: usize,
@@ -111,28 +139,29 @@ pub fn sheet_of(
 ) -> SheetAnswer
     ensures { result ≡ specs.sheet_of (specs.asked hours devices words mended limit) }
 {
-    if stands(hours, devices, words, mended, limit) {
-        let station = station_hours(hours, devices as u16);
-        let share = share_of(mended as u16, words as u16);
-        return SheetAnswer {
+    let asked = Asked {
+        hours,
+        devices,
+        words,
+        mended,
+        limit,
+    };
+    match asked.sheet() {
+        Some(sheet) => SheetAnswer {
             number: 0,
             told: 0,
-            yes: within(limit, share),
+            yes: within(limit, sheet.share),
+            sheet,
+        },
+        None => SheetAnswer {
+            number: 19,
+            told: 0,
+            yes: false,
             sheet: Sheet {
-                device: hours,
-                station,
-                share,
+                device: 0.0,
+                station: 0.0,
+                share: 0.0,
             },
-        };
-    }
-    SheetAnswer {
-        number: 19,
-        told: 0,
-        yes: false,
-        sheet: Sheet {
-            device: 0.0,
-            station: 0.0,
-            share: 0.0,
         },
     }
 }

@@ -14,13 +14,11 @@ use Rattle.columns.specs.Sound.{Reaches, Sound}
 use Rattle.columns.proofs.Singles.{length-joined, length-singles, single_at}
 use Rattle.code.specs.declared.Code.{Code}
 use Rattle.code.specs.declared.WideCode.{WideCode}
-use Rattle.code.specs.declared.Standing.{Standing}
-use Rattle.code.specs.declared.Standing.TheVariants as standing
-use Rattle.judge.specs.declared.Judged.TheVariants.{Accepted}
+use Rattle.std.specs.Prelude.{Ok, Err}
 use Rattle.judge.specs.Judge.{judge_in}
 use Rattle.judge.specs.Rule.{matrix, Hsiao}
-use Rattle.code.specs.Opened.{standing_of, opened_by, opened_in, opened_of, opened_wide, SoundOpened}
-use Rattle.code.proofs.Laid.{accepted_of_standing, refused_no_acceptance}
+use Rattle.code.specs.Opened.{Standing, standing_of, opened_by, opened_in, opened_of, opened_wide, SoundOpened}
+use Rattle.code.proofs.Laid.{accepted_of_standing}
 use Rattle.code.proofs.Laying.{laid_columns}
 use Rattle.judge.proofs.Rule.{matrix_below}
 use Rattle.judge.proofs.Table.{judge_rule}
@@ -58,7 +56,7 @@ hsiao_sound columns r some h = record {
 }
 
 -- accepted in any number of places
-pub accepted_sound : (most : ℕ) (columns : List ℕ) (k r : ℕ) → length columns ≡ most → judge_in most columns k r ≡ Accepted
+pub accepted_sound : (most : ℕ) (columns : List ℕ) (k r : ℕ) → length columns ≡ most → judge_in most columns k r ≡ Ok tt
     → Sound (odd_in (all_rows r)) (matrix (take k columns) r) k r
 accepted_sound most columns k r e h =
     let s = (judge_rule most columns k r).0 h in
@@ -72,13 +70,13 @@ accepted_sound most columns k r e h =
 -- ---- the opened code
 
 -- it is enough that an acceptance is sound
-pub sound_by : (s : Standing) (cs : List ℕ) (k rows r : ℕ) → (s ≡ standing.Accepted → Sound (odd_in rows) cs k r)
+pub sound_by : (s : Standing) (cs : List ℕ) (k rows r : ℕ) → (s ≡ Ok tt → Sound (odd_in rows) cs k r)
     → SoundOpened (opened_by s cs k rows)
-sound_by standing.Accepted cs k rows r f e =
+sound_by (Ok u) cs k rows r f e =
     let s = f refl in
     let n : length cs - k ≡ r = omega (arith, s.size) in
     rw (laid_columns cs, n) s
-sound_by (standing.Refused g) cs k rows r f e = absurd (refused_no_acceptance e)
+sound_by (Err g) cs k rows r f e = cc
 
 pub sound_in : (most : ℕ) (columns : List ℕ) (k r : ℕ) → length columns ≡ most → SoundOpened (opened_in most columns k r)
 sound_in most columns k r l =

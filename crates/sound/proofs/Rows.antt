@@ -11,7 +11,7 @@ use Rattle.columns.specs.Sound.{Reaches, Sound}
 use Rattle.code.specs.Opened.{SoundOpened}
 use Rattle.rows.specs.declared.RowCode.{RowCode}
 use Rattle.rows.specs.declared.WideRowCode.{WideRowCode}
-use Rattle.row_judge.specs.declared.JudgedRows.TheVariants.{Accepted}
+use Rattle.std.specs.Prelude.{Ok}
 use Rattle.row_judge.specs.Judge.{judge_rows_in}
 use Rattle.row_judge.specs.Rule.{Narrow, Triangular}
 use Rattle.rows.specs.Opened.{standing_of_rows, opened_rows_in, opened_rows, opened_wide_rows}
@@ -29,7 +29,7 @@ checks_reach cs k r size narrow t =
 
 -- accepted in any number of places
 pub rows_sound : (most : ℕ) (places : List ℕ) (n r rows : ℕ) → length places ≡ most + 16
-    → judge_rows_in most places n r rows ≡ Accepted → Sound (odd_in rows) (take n places) (n - r) r
+    → judge_rows_in most places n r rows ≡ Ok tt → Sound (odd_in rows) (take n places) (n - r) r
 rows_sound most places n r rows e h =
     let s = (rows_rule most places n r rows).0 h in
     let some = s.limits.sized.some in

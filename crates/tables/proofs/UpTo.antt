@@ -2,7 +2,7 @@
 use mathlib.Core.Path.{◌≡◌, refl, sym, ap, ap₂, ◌∙◌}
 use mathlib.Core.List.{List, [], ◌∷◌, ◌++◌, append_assoc, append-nil}
 use Prim.Native.Nat.{ℕ, zero, suc, ◌+◌, ◌≤◌, ◌<◌}
-use native.Mathlib.Nat.{add-suc, add-zero, not-suc-le-zero, le_of_suc-le-suc}
+use native.Mathlib.Nat.{add-suc, add-zero, not-suc-le-zero}
 use native.Mathlib.Numerals.{add-one}
 use native.Mathlib.Decide.{dec_lt}
 use native.Mathlib.Omega.{arith}
@@ -79,12 +79,6 @@ doubled f g c n t u e w low high =
     (up_to_alike (λ i. bit_xor (get_or t i 0) c) (λ i. g (n + i)) n
     (λ i h. ap (λ (x : ℕ). bit_xor x c) (sym (get_or-take n t i 0 h) ∙ ap (λ (l : List ℕ). get_or l i 0) e ∙ up_to-at f n i h) ∙ sym (high i h)))
     ∙ sym (up_to-add g n n)
-
--- past its end a list says 0
-pub get_d_past : (l : List ℕ) (p : ℕ) → length l ≤ p → get_or l p 0 ≡ 0
-get_d_past [] p h = refl
-get_d_past (x ∷ l) zero h = absurd (not-suc-le-zero h)
-get_d_past (x ∷ l) (suc p) h = get_d_past l p (le_of_suc-le-suc h)
 
 -- a table of one value
 pub first_value : (t : List ℕ) (f : ℕ → ℕ) → 0 < length t → f 0 ≡ 0 → take 1 (set t 0 0) ≡ up_to f 1

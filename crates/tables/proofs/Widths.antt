@@ -1,13 +1,9 @@
 -- How many values the table of a byte has, by its halves or whole, and what that is in so many tables. Assumes nothing.
 use mathlib.Core.Path.{◌≡◌}
 use mathlib.Core.Bool.{Bool, true, false}
-use Prim.Native.Nat.{ℕ, suc, ◌+◌, ◌*◌, ◌/◌, ◌%◌, ◌≤◌, ◌<◌}
+use Prim.Native.Nat.{ℕ, suc, ◌+◌, ◌*◌, ◌/◌, ◌%◌, ◌≤◌}
 use native.Mathlib.Omega.{arith}
 use Rattle.tables.specs.Tables.{values_in}
-
-pub values_some : (h : Bool) → (32 ≤ values_in h) × (values_in h ≤ 256)
-values_some true = (omega arith, omega arith)
-values_some false = (omega arith, omega arith)
 
 pub values_none : (h : Bool) → values_in h * 0 ≡ 0
 values_none true = omega arith
@@ -21,18 +17,9 @@ pub values_up : (h : Bool) (m n : ℕ) → m ≤ n → values_in h * m ≤ value
 values_up true m n l = omega arith
 values_up false m n l = omega arith
 
-pub values_over : (h : Bool) (m : ℕ) → 32 * m ≤ values_in h * m
-values_over true m = omega arith
-values_over false m = omega arith
-
 pub values_both : (h : Bool) (m n : ℕ) → values_in h * (m + n) ≡ values_in h * m + values_in h * n
 values_both true m n = omega arith
 values_both false m n = omega arith
-
--- a table that is not the last fits
-pub values_fit : (h : Bool) (l j : ℕ) → j < l / values_in h → values_in h * j + values_in h ≤ l
-values_fit true l j n = omega arith
-values_fit false l j n = omega arith
 
 -- tables without a rest, and how many they are
 pub values_whole : (h : Bool) (l : ℕ) → l % values_in h ≡ 0 → values_in h * (l / values_in h) ≡ l

@@ -20,23 +20,14 @@ pub fn values(halves: bool) -> usize
     if halves { HALF + HALF } else { WHOLE }
 }
 
-// The column at p, 0 past the end.
-fn column_or_none(columns: &[u16], p: usize) -> u16
-    ensures { result ≡ column columns.now p }
-{
-    if p < columns.len() { columns[p] } else { 0 }
-}
-
 // A table of `size` values becomes one of twice as many: the upper half has one column more.
 fn fill_bit(table: &mut [u16], size: usize, column: u16)
     requires { size + size ≤ length table.old }
     ensures { take (size + size) table.new
         ≡ take size table.old ++ up_to (λ (i : ℕ). bit_xor (get_or table.old i 0) column) size }
 {
-    let mut b: usize = 0;
-    while b < size {
+    for b in 0..size {
         table[size + b] = table[b] ^ column;
-        b += 1;
     }
 }
 
@@ -47,11 +38,9 @@ fn fill_values(table: &mut [u16], columns: &[u16])
 {
     table[0] = 0;
     let mut size: usize = 1;
-    let mut i: usize = 0;
-    while i < columns.len() {
-        fill_bit(table, size, columns[i]);
-        size = size + size;
-        i += 1;
+    for column in columns {
+        fill_bit(table, size, *column);
+        size += size;
     }
 }
 
@@ -64,20 +53,20 @@ fn fill_eight(table: &mut [u16], eight: &[u16], halves: bool)
         fill_values(&mut table[0..HALF], &eight[0..4]);
         fill_values(&mut table[HALF..32], &eight[4..8]);
     } else {
-        fill_values(table, &eight[0..8]);
+        fill_values(table, eight);
     }
 }
 
 // The eight columns from `at` on, 0 past the end.
-fn copy_eight(eight: &mut [u16], columns: &[u16], at: usize)
-    requires { (length eight.old ≡ 8) × (at + 8 < 2 ^ 64) }
-    ensures { eight.new ≡ up_to (λ (i : ℕ). column columns.now (at + i)) 8 }
+fn copy_eight(columns: &[u16], at: usize) -> [u16; 8]
+    requires { at + 8 < 2 ^ 64 }
+    ensures { result ≡ up_to (λ (i : ℕ). column columns.now (at + i)) 8 }
 {
-    let mut i: usize = 0;
-    while i < 8 {
-        eight[i] = column_or_none(columns, at + i);
-        i += 1;
+    let mut eight = [0u16; 8];
+    for i in 0..8 {
+        eight[i] = columns.get(at + i).copied().unwrap_or(0);
     }
+    eight
 }
 
 // The table of one byte, from the eight columns from `at` on: where all are there they are taken as they stand.
@@ -89,11 +78,9 @@ fn fill_byte(table: &mut [u16], columns: &[u16], at: usize, halves: bool)
     let end = at + 8;
     if end <= columns.len() {
         fill_eight(table, &columns[at..end], halves);
-        return;
+    } else {
+        fill_eight(table, &copy_eight(columns, at), halves);
     }
-    let mut eight = [0u16; 8];
-    copy_eight(&mut eight, columns, at);
-    fill_eight(table, &eight, halves);
 }
 
 // The tables of all bytes that there is room for; columns past the end of the list are 0.
@@ -103,13 +90,11 @@ fn fill(table: &mut [u16], columns: &[u16], halves: bool)
 {
     let size = values(halves);
     let n = table.len() / size;
-    let mut j: usize = 0;
-    while j < n {
+    for j in 0..n {
         let a = size * j;
         let e = a + size;
         let at = 8 * j;
         fill_byte(&mut table[a..e], columns, at, halves);
-        j += 1;
     }
 }
 
@@ -134,10 +119,10 @@ fn says(table: &[u16], at: usize, b: u8, halves: bool) -> u16
     if halves {
         let low = at + (b % 16) as usize;
         let high = at + HALF + (b / 16) as usize;
-        return table[low] ^ table[high];
+        table[low] ^ table[high]
+    } else {
+        table[at + usize::from(b)]
     }
-    let place = at + b as usize;
-    table[place]
 }
 
 // What the bytes say in their tables, all together.
@@ -147,10 +132,8 @@ pub fn looks(table: &[u16], bytes: &[u8], halves: bool) -> u16
 {
     let size = values(halves);
     let mut s: u16 = 0;
-    let mut j: usize = 0;
-    while j < bytes.len() {
-        s = s ^ says(table, size * j, bytes[j], halves);
-        j += 1;
+    for (j, byte) in bytes.iter().enumerate() {
+        s ^= says(table, size * j, *byte, halves);
     }
     s
 }

@@ -4,7 +4,7 @@
 ghost use Rattle.std.specs.Prelude.{◌≡◌, ◌≢◌};
 ghost use Rattle.parity.specs.Odd.{odd_in};
 ghost use Rattle.columns.specs.Mix.{place_in};
-ghost use Rattle.verdict.specs.Verdicts.{verdict_on, found, finding_of};
+ghost use Rattle.verdict.specs.Verdicts.{verdict_on, finding_of};
 
 // Document 01's verdicts 0 to 5, with the place that is flipped.
 #[derive(Clone, Copy)]
@@ -18,6 +18,7 @@ pub enum Verdict {
 }
 
 // The verdict on a syndrome that is not 0 and whose place is p, under the n columns of a code with k data bits and a set of rows.
+#[tactic(auto, using(parity::proofs::Ones::even_test, parity::proofs::Ones::odd_test), unfolding(crate::specs::Verdicts::verdict_on))]
 pub fn verdict_at(columns: &[u16], k: usize, rows: u16, s: u16, p: usize) -> Verdict
     requires s_nonzero { s ≢ 0 }
     requires p_value { p ≡ place_in columns.now s }
@@ -36,6 +37,7 @@ pub fn verdict_at(columns: &[u16], k: usize, rows: u16, s: u16, p: usize) -> Ver
 }
 
 // The verdict on a syndrome.
+#[tactic(auto, unfolding(crate::specs::Verdicts::verdict_on))]
 pub fn verdict_on(columns: &[u16], k: usize, rows: u16, s: u16) -> Verdict
     ensures { result ≡ verdict_on (odd_in rows) columns.now k s }
 {
@@ -45,28 +47,25 @@ pub fn verdict_on(columns: &[u16], k: usize, rows: u16, s: u16) -> Verdict
     verdict_at(columns, k, rows, s, columns::place_in(columns, s))
 }
 
-// Document 01's number of a verdict, and its place, 255 for none.
+// Document 01's number of a verdict, and its place, 255 for none. Numbers stay here: `desk_read` and the journal hand them out so.
 #[derive(Clone, Copy)]
 pub struct Finding {
     pub verdict: usize,
     pub place: usize,
 }
 
-fn found(verdict: usize, place: usize) -> Finding
-    ensures { result ≡ found verdict place }
-{
-    Finding { verdict, place }
-}
+impl From<Verdict> for Finding {
+    ghost from_gives = { λ v f. f ≡ finding_of v };
 
-pub fn finding_of(verdict: Verdict) -> Finding
-    ensures { result ≡ finding_of verdict }
-{
-    match verdict {
-        Verdict::Clean => found(0, 255),
-        Verdict::Data(p) => found(1, p),
-        Verdict::Check(p) => found(2, p),
-        Verdict::Even => found(3, 255),
-        Verdict::Odd => found(4, 255),
-        Verdict::Stray => found(5, 255),
+    fn from(verdict: Verdict) -> Finding {
+        let (verdict, place) = match verdict {
+            Verdict::Clean => (0, 255),
+            Verdict::Data(p) => (1, p),
+            Verdict::Check(p) => (2, p),
+            Verdict::Even => (3, 255),
+            Verdict::Odd => (4, 255),
+            Verdict::Stray => (5, 255),
+        };
+        Finding { verdict, place }
     }
 }

@@ -1,5 +1,5 @@
 -- Check bits wanted: document 01's bands of k, and 02's request 108 from 65 on. Assumes nothing.
-use Rattle.std.specs.Prelude.{cond, ◌||◌, ℕ, eqb, ltb, leb}
+use Rattle.std.specs.Prelude.{cond, ◌||◌, ℕ, eqb, ltb, leb, Option, Some, None}
 use Rattle.wanted.specs.declared.CheckBits.{CheckBits}
 
 -- 1 gives 3; 2 to 4 give 4; 5 to 11 give 5; 12 to 26 give 6; 27 to 57 give 7; 58 to 120 give 8; 121 and more give 9
@@ -15,6 +15,11 @@ band_of k =
 -- the question is refused by 1 where k is 0 or over `most`, and then hands back no bits
 unfoldable pub wanted_in : ℕ → ℕ → CheckBits
 wanted_in most k = cond (eqb k 0 || ltb most k) (record { number = 1; bits = 0 }) (record { number = 0; bits = band_of k })
+
+-- the check bits, or that there are none, as they are handed out
+abbrev pub handed_out : Option ℕ → CheckBits
+handed_out (Some bits) = record { number = 0; bits = bits }
+handed_out None = record { number = 1; bits = 0 }
 
 -- for codes of 64 places, and of 128
 abbrev pub wanted_of : ℕ → CheckBits

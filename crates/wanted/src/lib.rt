@@ -1,8 +1,8 @@
 // Check bits wanted.
 #![tactic(auto)]
 
-ghost use Rattle.std.specs.Prelude.{◌≡◌, ◌≤◌};
-ghost use Rattle.wanted.specs.Wanted.{wanted_in, wanted_of, wanted_wide};
+ghost use Rattle.std.specs.Prelude.{◌≡◌};
+ghost use Rattle.wanted.specs.Wanted.{handed_out, wanted_in};
 
 // The number, and the check bits where it is 0.
 #[repr(C)]
@@ -13,35 +13,31 @@ pub struct CheckBits {
 }
 
 // The smallest number of check bits for which a code of k data bits exists, of at most `most` of them.
-fn wanted_in(most: usize, k: usize) -> CheckBits
-    requires { most ≤ 128 }
-    ensures { result ≡ wanted_in most k }
+#[tactic(auto, unfolding(crate::specs::Wanted::band_of, crate::specs::Wanted::wanted_in))]
+fn bits_in(most: usize, k: usize) -> Option<usize>
+    ensures { handed_out result ≡ wanted_in most k }
 {
     if k > most {
-        return CheckBits { number: 1, bits: 0 };
+        return None;
     }
     match k {
-        1 => CheckBits { number: 0, bits: 3 },
-        2..=4 => CheckBits { number: 0, bits: 4 },
-        5..=11 => CheckBits { number: 0, bits: 5 },
-        12..=26 => CheckBits { number: 0, bits: 6 },
-        27..=57 => CheckBits { number: 0, bits: 7 },
-        58..=120 => CheckBits { number: 0, bits: 8 },
-        121..=128 => CheckBits { number: 0, bits: 9 },
-        _ => CheckBits { number: 1, bits: 0 },
+        0 => None,
+        1 => Some(3),
+        2..=4 => Some(4),
+        5..=11 => Some(5),
+        12..=26 => Some(6),
+        27..=57 => Some(7),
+        58..=120 => Some(8),
+        _ => Some(9),
     }
 }
 
-// For a code of 64 places.
-pub fn check_bits_wanted(k: usize) -> CheckBits
-    ensures { result ≡ wanted_of k }
+// The same as C is handed it, for codes of 64 places and of 128.
+pub fn check_bits_wanted<const MOST: usize>(k: usize) -> CheckBits
+    ensures { result ≡ wanted_in MOST k }
 {
-    wanted_in(64, k)
-}
-
-// And for one of 128.
-pub fn wide_check_bits_wanted(k: usize) -> CheckBits
-    ensures { result ≡ wanted_wide k }
-{
-    wanted_in(128, k)
+    match bits_in(MOST, k) {
+        Some(bits) => CheckBits { number: 0, bits },
+        None => CheckBits { number: 1, bits: 0 },
+    }
 }

@@ -23,9 +23,9 @@ mix-cut cs m a b h l =
     ap (λ (l : List ℕ). mix l (a + 2 ^ m * b)) (sym (take-append-drop m cs)) ∙ (rw e at whole)
 
 -- the same with the end of the second part named, as the code lends it
-pub mix-cut-part : (cs : List ℕ) (m a b : ℕ) → m ≤ length cs → a < 2 ^ m
+pub mix_cut_part : (cs : List ℕ) (m a b : ℕ) → m ≤ length cs → a < 2 ^ m
     → mix cs (a + 2 ^ m * b) ≡ bit_xor (mix (take m cs) a) (mix (take (length cs - m) (drop m cs)) b)
-mix-cut-part cs m a b h l =
+mix_cut_part cs m a b h l =
     mix-cut cs m a b h l ∙ ap (λ (l : List ℕ). bit_xor (mix (take m cs) a) (mix l b)) (sym (rest_all cs m))
 
 -- digits past the last column give nothing

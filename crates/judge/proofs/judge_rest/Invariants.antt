@@ -7,6 +7,3 @@ use Rattle.judge.proofs.judge_rest.Given as goal
 
 abbrev pub invariant-loop-i : goal.invariant-loop-i
 invariant-loop-i l = leftover_from l.places (length l.places - l.i) l.i ≡ judge_rest l.places l.k
-
-abbrev pub decreases-loop-i : goal.decreases-loop-i
-decreases-loop-i l = length l.places - l.i

@@ -1,34 +1,22 @@
-use mathlib.Core.Path.{◌≡◌, refl, ap}
+-- `listing::count_pairs` meets its contract: one place more. Assumes nothing.
+use mathlib.Core.Path.{ap, ◌∙◌}
 use native.Mathlib.Omega.{arith}
 use borrow.Author.Rules.{rules}
-use lib.ListN.{length}
+use Rattle.std.specs.Option.{is_some}
 use Rattle.listing.specs.BySyndrome.{pairs_from}
-use Rattle.listing.proofs.Walk.{next_missing, count-found}
+use Rattle.listing.proofs.Walk.{count_next}
 use Rattle.listing.proofs.count_pairs.Goals as goal
+use Rattle.listing.proofs.count_pairs.Goals.{then-is_some, else-is_some}
 
 pub loop-p-init : goal.loop-p-init
 unfolding pairs_from
 loop-p-init c = search rules
 
-pub loop-p-preserved-then-q-n : goal.loop-p-preserved-then-q-n
-loop-p-preserved-then-q-n c =
-    let at = c.before.before.before.before in
-    let a = at.args in
-    let q = c.partner-q in
-    let next = count-found a.columns.now a.s at.loop-p.p q.result q.ensures c.if-q-n.true in
-    (omega arith, refl, omega arith, omega arith)
-
 pub loop-p-preserved : goal.loop-p-preserved
 loop-p-preserved c =
-    let at = c.before.before.before.before in
-    let a = at.args in
-    let q = c.partner-q in
-    let next = ap length (next_missing a.columns.now a.s at.loop-p.p q.result q.ensures c.if-q-n.false) in
-    (omega arith, refl, omega arith, omega arith)
-
-pub returns : goal.returns
-returns c =
-    let at = c.before.before in
-    let a = at.args in
-    let e : at.loop-p.p ≡ length a.columns.now = omega arith in
-    rw (← e) at.loop-p.invariant.2
+    let next = count_next c.args.columns.now c.args.s c.loop-p.p c.is_some.result
+    (c.is_some.ensures ∙ ap is_some c.partner.ensures) in
+    elim c.if-is_some.branch [
+      | then-is_some w ↦ let more = rw w.if-is_some.true at next in (omega arith, omega arith)
+      | else-is_some w ↦ let more = rw w.if-is_some.false at next in (omega arith, omega arith)
+    ]

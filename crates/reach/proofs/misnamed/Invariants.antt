@@ -1,12 +1,8 @@
 -- `reach::misnamed` meets its contract. The invariant: what is wrong among the places from i on is wrong among all. Assumes nothing.
-use Prim.Native.Nat.{◌≤◌, ◌-◌}
 use mathlib.Core.Path.{◌≡◌}
-use lib.ListN.{length, drop}
+use lib.ListN.{drop}
 use Rattle.reach.specs.Places.{misnamed}
 use Rattle.reach.proofs.misnamed.Given as goal
 
 abbrev pub invariant-loop-i : goal.invariant-loop-i
-invariant-loop-i l = (l.i ≤ length l.places) × (misnamed l.n (drop l.i l.places) ≡ misnamed l.n l.places)
-
-abbrev pub decreases-loop-i : goal.decreases-loop-i
-decreases-loop-i l = length l.places - l.i
+invariant-loop-i l = misnamed l.n (drop l.i l.places) ≡ misnamed l.n l.places

@@ -13,11 +13,11 @@ loop-i-preserved c =
     let l = c.loop-i in
     let bytes = c.args.bytes.now in
     let step = write_step l.part (drop (l.i + 1) bytes) l.i (get_or bytes l.i 0) (omega arith) in
-    (omega arith, simp length-set l.invariant.1, step ∙ rw (drop-cons bytes l.i 0 (omega arith), ← add-one) at l.invariant.2)
+    (simp length-set l.invariant.0, step ∙ rw (drop-cons bytes l.i 0 (omega arith), ← add-one) at l.invariant.1)
 
 pub returns : goal.returns
 returns c =
     let l = c.loop-i in
     let bytes = c.args.bytes.now in
     let z : drop l.i bytes ≡ [] = drop_of_length-le bytes {i = l.i} (omega arith) in
-    write_done l.part bytes l.i (omega arith) (rw z at l.invariant.2)
+    write_done l.part bytes l.i (omega arith) (rw z at l.invariant.1)

@@ -1,44 +1,64 @@
-use mathlib.Core.Path.{◌≡◌, refl, ap, ◌∙◌}
-use Prim.Native.Nat.{ℕ, ◌+◌, ◌*◌, ◌-◌, ◌/◌}
-use native.Mathlib.Omega.{arith}
-use lib.ListN.{length}
+use Rattle.std.proofs.Common.{◌≡◌, ℕ, ◌*◌, ◌/◌, ◌∷◌, [], length, sym, ap, ◌∙◌, refl, arith, length-append, length-drop}
 use Rattle.record.specs.Layout.{data_size, entry_size}
 use Rattle.record.specs.Run.{gather, over}
-use Rattle.record.proofs.Over.{part_length}
 use Rattle.report.specs.Text.{journal_text}
 use Rattle.report.proofs.Written.{fronted}
-use Rattle.report.proofs.Lines.{lines_to, lines_short, lines_step}
+use Rattle.report.proofs.Lines.{lines_to, lines_short, next_entry, lines_step}
 use Rattle.report.proofs.journal_text.Goals as goal
 
 pub loop-entry-init : goal.loop-entry-init
 unfolding gather
-loop-entry-init c = (omega arith, refl, refl, refl, refl)
+loop-entry-init c =
+    let from = c.chunks_exact-entry-items.ensures in
+    rw c.into_iter-entry-iterator.ensures.into_iter_gives (record {
+      can_next = omega (arith, from.size);
+      ends = tt;
+      size = from.size;
+      left = from.rest;
+      inside = omega arith;
+      lines = refl;
+      at = refl;
+    })
 
-pub put_entry_line-at-requires : goal.put_entry_line-at-requires
-put_entry_line-at-requires c =
+pub put_entry_line-at-requires-clause-line_size_in_bounds : goal.put_entry_line-at-requires-clause-line_size_in_bounds
+put_entry_line-at-requires-clause-line_size_in_bounds c =
+    let m = c.loop-entry.invariant in
+    let s = c.in-Some.ensures.steps in
     let j = c.args.journal.now in
-    let i = c.loop-entry.entry in
-    let from = i * entry_size data_size in record {
-      len = part_length from (from + entry_size data_size - from) j (omega arith) ∙ omega arith;
-      line_size_in_bounds = omega (arith, lines_short j (λ k. omega (arith, c.type_inv.journal k)) i);
-    }
+    let k = length c.loop-entry.yielded in
+    let e = next_entry j c.in-Some.entry.now _ k (entry_size data_size) (omega arith) (sym m.left ∙ s.1.0) (s.1.1 ∙ m.size) in
+    omega (arith, e.2, m.at, lines_short j (λ i. omega (arith, c.type_inv.journal i)) k)
 
 pub loop-entry-preserved : goal.loop-entry-preserved
 loop-entry-preserved c =
+    let m = c.loop-entry.invariant in
+    let s = c.in-Some.ensures.steps in
+    let j = c.args.journal.now in
+    let k = length c.loop-entry.yielded in
     let put = c.put_entry_line-at in
-    let m = c.loop-entry in
-    let from = m.entry * entry_size data_size in
-    let q = lines_step c.args.journal.now c.args.out.now m.out put.new.out m.entry m.at put.result (from + entry_size data_size - from)
-    (omega arith) m.invariant.2 m.invariant.3 (put.ensures.value, put.ensures.out_after) in
-    (omega arith, m.invariant.1, q.0, q.1, omega (arith, m.invariant.4))
+    let e = next_entry j c.in-Some.entry.now _ k (entry_size data_size) (omega arith) (sym m.left ∙ s.1.0) (s.1.1 ∙ m.size) in
+    let q = lines_step j c.args.out.now c.loop-entry.out put.new.out c.in-Some.entry.now k c.loop-entry.at put.result e.0 m.lines m.at
+    (put.ensures.value, put.ensures.out_after) in
+    rw (length-append c.loop-entry.yielded (c.in-Some.entry ∷ [])) (record {
+      can_next = omega (arith, s.0, m.can_next);
+      ends = tt;
+      size = s.0 ∙ m.size;
+      left = e.1;
+      inside = e.2;
+      lines = q.0;
+      at = q.1;
+    })
 
 pub returns : goal.returns
 unfolding journal_text
 returns c =
-    let m = c.loop-entry in
+    let m = c.loop-entry.invariant in
+    let s = c.in-None.ensures.steps in
     let j = c.args.journal.now in
-    let e : m.entry ≡ length j / entry_size data_size = omega arith in
+    let k = length c.loop-entry.yielded in
+    let e : k ≡ length j / entry_size data_size =
+    omega (arith, m.inside, s.1.0, m.size, ap length m.left, length-drop (k * entry_size data_size) j) in
     let first = c.args.out.now in
-    let w = fronted m.at (journal_text j) first m.out
-    (m.invariant.3 ∙ ap (λ (k : ℕ). length (lines_to j k)) e) (m.invariant.2 ∙ ap (λ (k : ℕ). over (lines_to j k) first) e) in
+    let w = fronted c.loop-entry.at (journal_text j) first c.loop-entry.out
+    (m.at ∙ ap (λ (k : ℕ). length (lines_to j k)) e) (m.lines ∙ ap (λ (k : ℕ). over (lines_to j k) first) e) in
     record { value = w.0; out_after = w.1.0; held = w.1.1 }

@@ -1,15 +1,14 @@
 -- `tables::fill_record` meets its contract: the two parts are all of the table. Assumes nothing.
-use mathlib.Core.Path.{◌≡◌, sym, ap, ◌∙◌}
+use mathlib.Core.Path.{◌≡◌, ap}
 use mathlib.Core.Bool.{Bool}
 use Prim.Native.Nat.{ℕ, ◌+◌, ◌-◌, ◌*◌, ◌/◌}
 use mathlib.Core.List.{List}
 use native.Mathlib.Omega.{arith}
 use borrow.Rule.Slice.PartMut.{put_mid}
 use lib.ListN.{length, take, drop}
-use lib.Seq.{length-take-le}
 use Rattle.record.proofs.Over.{part_length}
 use Rattle.tables.specs.Tables.{values_in, tables}
-use Rattle.tables.proofs.Widths.{values_both, values_parts}
+use Rattle.tables.proofs.Widths.{values_both}
 use Rattle.tables.proofs.Lookups.{back-length, record_filled}
 use Rattle.tables.proofs.fill_record.Goals as goal
 
@@ -32,53 +31,6 @@ back : (h : Bool) (cs l x : List ℕ) (k d : ℕ) {size : ℕ} → size ≡ valu
 back h cs l x k d {size} e g f =
     back-length h cs l (take (size * d - 0) (drop 0 l)) x k d (size * d) (size * d - 0) g (times h d e) (omega arith)
     (part_length 0 (size * d - 0) l (omega (arith, all h d (length l) e g))) f _ (rest h d e)
-
-pub overflow_mul-split : goal.overflow_mul-split
-overflow_mul-split c =
-    let a = c.args in
-    record { fits = omega (arith, all a.halves a.d (length a.table.now) c.values-size.ensures c.requires.table_len) }
-
-pub overflow_mul-end : goal.overflow_mul-end
-overflow_mul-end c =
-    let a = c.args in
-    record { fits = omega (arith, all a.halves a.d (length a.table.now) c.values-size.ensures c.requires.table_len) }
-
-pub overflow_add-end : goal.overflow_add-end
-overflow_add-end c =
-    let a = c.args in
-    record { fits = omega (arith, all a.halves a.d (length a.table.now) c.values-size.ensures c.requires.table_len) }
-
-pub slice_bounds-fill-end : goal.slice_bounds-fill-end
-slice_bounds-fill-end c =
-    let a = c.args in
-    omega (arith, all a.halves a.d (length a.table.now) c.values-size.ensures c.requires.table_len)
-
-pub slice_bounds-fill-end-2 : goal.slice_bounds-fill-end-2
-slice_bounds-fill-end-2 c = sym (length-take-le _ _ (omega arith))
-
-pub fill-requires : goal.fill-requires
-fill-requires c =
-    let a = c.args in
-    let n = c.values-size.result * a.d in
-    let w : n - 0 ≡ n = omega arith in
-    let both = all a.halves a.d (length a.table.now) c.values-size.ensures c.requires.table_len in
-    (values_parts a.halves _ a.d (part_length 0 _ a.table.now (omega (arith, both)) ∙ w ∙ times a.halves a.d c.values-size.ensures)).1
-
-pub offset_bounds-table-split : goal.offset_bounds-table-split
-offset_bounds-table-split c =
-    let a = c.args in
-    omega (arith, all a.halves a.d (length a.table.now) c.values-size.ensures c.requires.table_len)
-
-pub slice_bounds-fill-end-3 : goal.slice_bounds-fill-end-3
-slice_bounds-fill-end-3 c =
-    let a = c.args in
-    omega (arith, all a.halves a.d (length a.table.now) c.values-size.ensures c.requires.table_len)
-
-pub fill-requires-2 : goal.fill-requires-2
-fill-requires-2 c =
-    let a = c.args in
-    let b = back a.halves a.columns.now a.table.now c.fill.new.table a.k a.d c.values-size.ensures c.requires.table_len c.fill.ensures in
-    (values_parts a.halves _ 2 b).1
 
 pub returns : goal.returns
 returns c =

@@ -4,7 +4,7 @@ use mathlib.Core.Path.{sym, ap₂, ◌∙◌}
 use native.Mathlib.Omega.{arith}
 use lib.Bits.{bit_xor}
 use lib.Seq.{length-take-le}
-use Rattle.word.proofs.Halves.{mix-cut-part, mix_past}
+use Rattle.word.proofs.Halves.{mix_cut_part, mix_past}
 use Rattle.word.proofs.mixed.Goals as goal
 
 pub returns-then-columns-le64 : goal.returns-then-columns-le64
@@ -19,4 +19,4 @@ pub returns : goal.returns
 returns c =
     let a = c.args in
     ap₂ bit_xor c.mixed-2.ensures c.mixed-3.ensures
-    ∙ sym (mix-cut-part a.columns.now 64 a.low a.high (omega arith) c.ranges.low.fits)
+    ∙ sym (mix_cut_part a.columns.now 64 a.low a.high (omega arith) c.ranges.low.fits)

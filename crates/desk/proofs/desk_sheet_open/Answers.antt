@@ -1,5 +1,0 @@
--- `desk::desk_sheet_open` meets its contract: the question. Assumes nothing.
-use Rattle.desk.proofs.desk_sheet_open.Goals as goal
-
-pub returns : goal.returns
-returns c = c.sheet_of.ensures

@@ -1,7 +1,0 @@
--- `desk::row_sets::desk_rows_recover` meets its contract: the question, without the high half. Assumes nothing.
-use mathlib.Core.Path.{ap, ◌∙◌}
-use Rattle.desk.specs.Answers.{recovered_by}
-use Rattle.desk.proofs.row_sets.desk_rows_recover.Goals as goal
-
-pub returns : goal.returns
-returns c = c.narrow_recovery.ensures ∙ ap recovered_by c.recover.ensures

@@ -1,7 +1,0 @@
--- `row_desk::judge` meets its contract: an opening, and the question. Assumes nothing.
-use mathlib.Core.Path.{ap, ◌∙◌}
-use Rattle.code.specs.Opened.{judgement_in}
-use Rattle.row_desk.proofs.judge.Goals as goal
-
-pub returns : goal.returns
-returns c = c.judgement.ensures ∙ ap judgement_in c.open_rows.ensures.value
