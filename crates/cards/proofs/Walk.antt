@@ -37,7 +37,7 @@ any_place cs number b p q part = go (cards_in b (length part)) number p q part
     go (suc n) number p q part = ap (option_or (weak_mask_in cs (take b part) number)) (go n (suc number) (p + b) (q + b) (drop b part))
 
 -- a chunk is the first b places, or all where fewer are left
-chunk : (b : ℕ) (card after : List ℕ) → length card ≡ min b (length (card ++ after)) → (take b (card ++ after) ≡ card) × (drop b (card ++ after) ≡ after)
+pub chunk : (b : ℕ) (card after : List ℕ) → length card ≡ min b (length (card ++ after)) → (take b (card ++ after) ≡ card) × (drop b (card ++ after) ≡ after)
 chunk b card [] e =
     let few : length card ≤ b = omega (arith, e) in
     rw append-nil (take_all b card few, drop_of_length-le card few)

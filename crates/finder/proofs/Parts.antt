@@ -32,14 +32,14 @@ module _ (n k : ℕ) (h : k ≤ n) where
   every_high = ap (λ (x : ℕ). x / 2 ^ k) (cut n k h) ∙ high (every_place (n - k)) k (every_fits k)
 
   -- up to 64 data places the high half is empty
-  every_narrow : k ≤ 64 → in_parts k (every_place n) ≡ record { low = every_place k; high = 0; check = every_place (n - k) }
+  pub every_narrow : k ≤ 64 → in_parts k (every_place n) ≡ record { low = every_place k; high = 0; check = every_place (n - k) }
   every_narrow l =
       let fits : every_place k < 2 ^ 64 = omega (arith, every_fits k, pow_mono {i = k} {j = 64} l) in
       let a = ap (λ (x : ℕ). x % 2 ^ 64) every_low ∙ mod-eq_of_lt fits in
       let b = ap (λ (x : ℕ). x / 2 ^ 64) every_low ∙ div-eq_of_lt fits in
       λ i. record { low = a i; high = b i; check = every_high i }
 
-  every_wide : 64 ≤ k
+  pub every_wide : 64 ≤ k
       → in_parts k (every_place n) ≡ record { low = every_place 64; high = every_place (k - 64); check = every_place (n - k) }
   every_wide l =
       let a = ap (λ (x : ℕ). x % 2 ^ 64) every_low ∙ halves-low in

@@ -49,7 +49,10 @@ fn judge_columns(columns: &[u16], r: usize) -> Judged
     ensures { result ≡ judge_columns columns.now r }
 {
     for i in 0..columns.len() {
-        judge_column(columns, r, i)?;
+        let verdict = judge_column(columns, r, i);
+        let Ok(()) = verdict else {
+            return verdict;
+        };
     }
     Ok(())
 }

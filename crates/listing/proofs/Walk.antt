@@ -107,7 +107,7 @@ module _ (cs : List ℕ) (s p : ℕ) where
         (sym (bytes-append (pairs_from cs s p 0) ((p ∷ q ∷ []) ∷ [])) ∙ ap bytes_for (sym (next_found q found)))
 
 -- no part has more than all
-pairs_most : (cs : List ℕ) (s p m : ℕ) → p ≤ m → length (pairs_from cs s p 0) ≤ length (pairs_from cs s m 0)
+pub pairs_most : (cs : List ℕ) (s p m : ℕ) → p ≤ m → length (pairs_from cs s p 0) ≤ length (pairs_from cs s m 0)
 pairs_most cs s p m h =
     omega (
       arith,

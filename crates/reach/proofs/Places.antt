@@ -4,7 +4,7 @@ use mathlib.Core.Bool.{Bool, true, false, cond, ◌||◌, true≢false}
 use mathlib.Core.List.{List, [], ◌∷◌}
 use Prim.Native.Nat.{ℕ, ◌+◌, ◌-◌, ◌≤◌, ◌<◌}
 use native.Mathlib.Numerals.{add-one}
-use borrow.Author.Tests.{leb-false, le-leb, lt-leb, ltb-false}
+use borrow.Author.Tests.{leb-false, le-leb, lt-leb, lt-ltb, le-ltb, ltb-false}
 use lib.Dec.{eqb, leb, ltb}
 use lib.ListN.{length, take, drop, drop_of_length-le, get_or}
 use lib.Seq.{drop-cons}
@@ -13,7 +13,7 @@ use Rattle.word.proofs.Halves.{rest_all}
 use Rattle.reach.specs.Places.{stands, misnamed, wrong_places}
 
 -- the library's word for it, of the places behind one as the code lends them
-any_stands : (p : ℕ) (ps : List ℕ) → list_any (λ q. eqb q p) ps ≡ stands p ps
+pub any_stands : (p : ℕ) (ps : List ℕ) → list_any (λ q. eqb q p) ps ≡ stands p ps
 unfolding stands
 any_stands p [] = refl
 any_stands p (q ∷ ps) = go (eqb q p) (any_stands p ps)
@@ -24,7 +24,7 @@ any_stands p (q ∷ ps) = go (eqb q p) (any_stands p ps)
 
 -- place i of a list: it is at n or above, or else the tests go on
 module _ (n i : ℕ) (ps : List ℕ) (inside : i < length ps) where
-  misnamed_at : misnamed n (drop i ps)
+  pub misnamed_at : misnamed n (drop i ps)
       ≡ cond (leb n (get_or ps i 0)) true (cond (stands (get_or ps i 0) (drop (i + 1) ps)) true (misnamed n (drop (i + 1) ps)))
   unfolding misnamed
   misnamed_at = rw (drop-cons ps i 0, add-one)
@@ -56,6 +56,12 @@ named-first n p ps = go (leb n p) (stands p ps) (misnamed n ps) refl
 -- ---- the count comes first
 
 module _ (n : ℕ) (ps : List ℕ) where
+  pub too_many : 3 < length ps → wrong_places n ps ≡ true
+  too_many h = rw (lt-ltb 3 (length ps) h)
+
+  pub few_places : length ps ≤ 3 → wrong_places n ps ≡ misnamed n ps
+  few_places h = rw (le-ltb 3 (length ps) h)
+
   -- nothing is wrong with them
   pub right-places : wrong_places n ps ≡ false → (length ps ≤ 3) × (misnamed n ps ≡ false)
   right-places = go (ltb 3 (length ps)) refl

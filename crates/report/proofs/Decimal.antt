@@ -5,12 +5,9 @@ use mathlib.Core.List.{List, [], ◌∷◌, ◌++◌}
 use Prim.Native.Nat.{ℕ, zero, suc, ◌+◌, ◌-◌, ◌*◌, ◌/◌, ◌%◌, ◌^◌, ◌≤◌, ◌<◌}
 use native.Mathlib.Decide.{dec_lt}
 use native.Mathlib.Omega.{arith}
-use borrow.Author.Tests.{lt-ltb, le-ltb, ne_eqb}
+use borrow.Author.Tests.{lt-ltb, le-ltb}
 use lib.Dec.{ltb}
 use lib.ListN.{length, length-append}
-use mathlib.Core.Bool.{false}
-use Rattle.std.specs.Fmt.{digit_glyph, digits, digits_onto, decimal}
-use Rattle.std.proofs.Common.{◌≢◌, sym, append_assoc, append-nil, eq-eqb}
 use Rattle.report.specs.Text.{digit, decimal_in, decimal_of, said_from}
 
 -- where there is room for every digit, more room changes nothing
@@ -65,29 +62,3 @@ said_in (suc m) n h =
 pub decimal_says : (n : ℕ) → said_from 0 (decimal_of n) ≡ n
 unfolding decimal_of
 decimal_says n = said_in n n (omega arith)
-
--- ---- the library's digits are these
-
-glyph : (d : ℕ) → d < 10 → digit_glyph false d ≡ digit d
-glyph d h = simp (lt-ltb d 10 h)
-
-onto_one : (k n : ℕ) (acc : List ℕ) → n < 10 → digits_onto (suc k) 10 false n acc ≡ decimal_of n ++ acc
-onto_one k n acc h =
-    let none : n / 10 ≡ 0 = omega arith in
-    let same : n % 10 ≡ n = omega arith in
-    rw (decimal_one n h, eq-eqb _ _ none, same, glyph n h)
-
-onto : (k n : ℕ) (acc : List ℕ) → n < 10 ^ suc k → digits_onto (suc k) 10 false n acc ≡ decimal_of n ++ acc
-onto zero n acc h = onto_one zero n acc (omega arith)
-onto (suc k) n acc h =
-    elim (dec_lt n 10) as (λ d. digits_onto (suc (suc k)) 10 false n acc ≡ decimal_of n ++ acc) [
-      | yes l ↦ onto_one (suc k) n acc l
-      | no l ↦
-          let some : n / 10 ≢ 0 = λ e. omega (arith, e) in
-          rw (decimal_more n (omega arith), ne_eqb _ _ some, glyph (n % 10) (omega arith))
-          (onto k (n / 10) (digit (n % 10) ∷ acc) (omega arith) ∙ sym (append_assoc (decimal_of (n / 10)) (digit (n % 10) ∷ []) acc))
-    ]
-
-pub decimal_is : (n : ℕ) → n < 2 ^ 64 → decimal n ≡ decimal_of n
-unfolding digits
-decimal_is n h = onto 63 n [] (omega arith) ∙ append-nil (decimal_of n)

@@ -21,18 +21,19 @@ const HOLE: u8 = b'#';
 
 // ---- no heap: each writes its text into a lent buffer, from the place `at` on, and answers the place after it
 
-// A number in decimal.
-#[tactic(auto, using(crate::proofs::Decimal::decimal_is), unfolding(crate::specs::Text::written))]
+// A number in decimal: the digits before the last, then the last. By the kit's itoa the lines of a journal take twice as long.
 fn put_decimal(out: &mut [u8], at: usize, n: usize) -> usize
     requires { at + length (decimal_of n) ≤ length out.old }
     ensures value { result ≡ at + length (decimal_of n) }
     ensures out_after { out.new ≡ written at (decimal_of n) out.old }
 {
-    let mut buffer = itoa::Buffer::new();
-    let digits = buffer.format(n).as_bytes();
-    let end = at + digits.len();
-    out[at..end].copy_from_slice(digits);
-    end
+    if n < 10 {
+        out[at] = b'0' + n as u8;
+        return at + 1;
+    }
+    let last = put_decimal(out, at, n / 10);
+    out[last] = b'0' + (n % 10) as u8;
+    last + 1
 }
 
 // A text, with the numbers in the places of its holes. By write!, a failure would have to be ruled out for each text, on top of its room.

@@ -35,10 +35,11 @@ fn open_in(places: &[u16], n: usize, r: usize, rows: u16) -> Opened
     requires { (16 ≤ length places.now) × (length places.now ≤ 144) }
     ensures { result ≡ opened_rows_in (length places.now - 16) places.now n r rows }
 {
-    match quick_judge::judge_rows_in(places, n, r, rows) {
-        Ok(()) => code::lay_out(&places[..n], 0, n - r, rows),
-        Err(flaw) => code::refuse(Refusal::from(flaw)),
-    }
+    let verdict = quick_judge::judge_rows_in(places, n, r, rows);
+    let Ok(()) = verdict else {
+        return code::refuse(verdict.map_err(Refusal::from));
+    };
+    code::lay_out(&places[..n], 0, n - r, rows)
 }
 
 // A code of 80 places.

@@ -8,6 +8,10 @@ use native.Mathlib.Omega.{arith}
 pub whole-fits : (size n k : ℕ) → k ≤ n / size → k * size ≤ n
 whole-fits size n k h = omega (arith, mul-le-mul_right size h, div-mul-le_self n size)
 
+-- they are no more than there was
+pub quotient_back : {n w : ℕ} (size : ℕ) → n < w → n / size * size < w
+quotient_back {n} size h = omega (arith, div-mul-le_self n size)
+
 -- without a rest they are all of it
 pub no_rest : (size n : ℕ) → n % size ≡ 0 → n / size * size ≡ n
 no_rest size n h = omega (arith, div-add-mod' n size)

@@ -5,7 +5,7 @@ use mathlib.Core.List.{List}
 use Prim.Native.Nat.{ℕ, ◌+◌, ◌-◌, ◌*◌, ◌/◌, ◌^◌, ◌≤◌, ◌<◌}
 use native.Mathlib.Nat.{div-eq_of_lt, le-div_iff_mul-le}
 use native.Mathlib.Omega.{arith}
-use borrow.Author.Tests.{leb-true, leb-false, lt-ltb, le-ltb}
+use borrow.Author.Tests.{leb-true, leb-false, le-leb, lt-ltb, le-ltb}
 use lib.Dec.{ltb}
 use lib.ListN.{length}
 use lib.Pow.{pow_pos, pow_mono, high, shr-shr}
@@ -43,6 +43,10 @@ module _ (low top width : ℕ) (fits : low < 2 ^ 64) where
       let b = pow_mono {i = 64} {j = width - 64} (omega arith) in
       let z : top / 2 ^ (width - 64) ≡ 0 = div-eq_of_lt (omega arith) in
       sym (stray_high (omega arith)) ∙ le-ltb 0 (top / 2 ^ (width - 64)) (omega arith)
+
+  -- below 64 a bit of the high half is stray
+  pub stray_over : width < 64 → 0 < top → strays width (joined low top) ≡ true
+  stray_over l h = le-leb (2 ^ width) (joined low top) (omega (arith, pow_mono {i = width} {j = 64} (omega arith)))
 
   -- below 64, with nothing in the high half, the low half decides
   pub stray_low : top ≤ 0 → ltb 0 (low / 2 ^ width) ≡ strays width (joined low top)
