@@ -42,7 +42,7 @@ fn judge_column(columns: &[u16], r: usize, i: usize) -> Judged
     Ok(())
 }
 
-// The lowest bad column decides.
+// The lowest bad column decides. By `let .. else` and not by `?`: document 01 names that form for a refused code, here and where it is opened.
 #[tactic(auto, using(crate::proofs::Steps::from_step, crate::proofs::Steps::from_end), unfolding(crate::specs::Judge::judge_columns))]
 fn judge_columns(columns: &[u16], r: usize) -> Judged
     requires { r ≤ 16 }

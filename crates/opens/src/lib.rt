@@ -21,7 +21,8 @@ pub trait Opens {
     // The bytes of data in a record of its edition.
     const DATA: usize;
 
-    // What is asked, whatever the family: laid out, sound where it is accepted, and its data held by a record.
+    // What is asked, whatever the family: laid out, sound where it is accepted, and its data held by a record. The code is taken and not
+    // borrowed: behind a reference the check does not see how long its list is.
     fn open(self) -> Opened
         ensures value { result ≡ opened self }
         ensures laid { Laid result }
